@@ -1,0 +1,4 @@
+pub mod Clock
+pub mod Refusals
+pub mod Books
+pub mod Rules
