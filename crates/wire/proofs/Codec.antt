@@ -13,7 +13,7 @@ use Rattle.std.specs.declared.result.Result.{Result}
 use Rattle.std.specs.declared.result.Result.the-variants.{Ok, Err}
 use Rattle.model.specs.declared.refusal.Refusal.{Refusal}
 use Rattle.model.specs.declared.refusal.Refusal.the-variants.{FileEndsEarly, BadNumber}
-use Rattle.wire.specs.Numbers.{groupsOf, encode, Decoded, longer, groups, below, decode}
+use Rattle.wire.specs.Numbers.{groupsOf, encode, Decoded, longer, groups, limited, decode}
 
 -- the definitions, a way at a time
 
@@ -104,21 +104,21 @@ begins (suc f) (b ∷ bs) n m e = begins-more f b bs n m (begins f bs) (ltb b 12
 -- the round trips of a number
 
 pub decode-encode : (n : ℕ) (rest : List ℕ) → n < 2 ^ 32 → decode (encode n ++ rest) ≡ Ok (n, length (encode n))
-unfolding decode encode below
+unfolding decode encode limited
 decode-encode n rest h =
     let back = reads-back 4 n rest (omega arith) in
     let t = lt-ltb n (2 ^ 32) h in
-    ap (below (2 ^ 32)) back ∙ simp t
+    ap (limited (2 ^ 32)) back ∙ simp t
 
 pub record Canonical (bs : List ℕ) (n m : ℕ) : Type 0 where
   pub front : bs ≡ encode n ++ drop m bs
   pub long : length (encode n) ≡ m
   pub small : n < 2 ^ 32
 
-canonical-below : (bs : List ℕ) (n m : ℕ) (r : Decoded) → groups 5 bs ≡ r → below (2 ^ 32) r ≡ Ok (n, m) → Canonical bs n m
-unfolding below encode
-canonical-below bs n m (Err k) is e = not-read k n m e
-canonical-below bs n m (Ok x) is e = go (ltb (x .0) (2 ^ 32)) refl e
+canonical-limited : (bs : List ℕ) (n m : ℕ) (r : Decoded) → groups 5 bs ≡ r → limited (2 ^ 32) r ≡ Ok (n, m) → Canonical bs n m
+unfolding limited encode
+canonical-limited bs n m (Err k) is e = not-read k n m e
+canonical-limited bs n m (Ok x) is e = go (ltb (x .0) (2 ^ 32)) refl e
   where
     go : (t : Bool) → ltb (x .0) (2 ^ 32) ≡ t → cond {A = Decoded} t (Ok x) (Err BadNumber) ≡ Ok (n, m) → Canonical bs n m
     go true p e =
@@ -129,7 +129,7 @@ canonical-below bs n m (Ok x) is e = go (ltb (x .0) (2 ^ 32)) refl e
 
 pub canonical : (bs : List ℕ) (n m : ℕ) → decode bs ≡ Ok (n, m) → Canonical bs n m
 unfolding decode
-canonical bs n m e = canonical-below bs n m (groups 5 bs) refl e
+canonical bs n m e = canonical-limited bs n m (groups 5 bs) refl e
 
 pub encode-decode : (bs : List ℕ) (n m : ℕ) → decode bs ≡ Ok (n, m) → take m bs ≡ encode n
 encode-decode bs n m e = let c = canonical bs n m e in ap (take m) (c .front) ∙ take-at (encode n) (drop m bs) m (c .long)
@@ -141,25 +141,25 @@ unfolding encode groupsOf
 example-300 = refl
 
 example-read : decode (172 ∷ 2 ∷ 9 ∷ []) ≡ Ok (300, 2)
-unfolding decode below groups longer
+unfolding decode limited groups longer
 example-read = refl
 
 example-long : decode (128 ∷ 0 ∷ []) ≡ Err BadNumber
-unfolding decode below groups longer
+unfolding decode limited groups longer
 example-long = refl
 
 example-ends : decode (128 ∷ 128 ∷ []) ≡ Err FileEndsEarly
-unfolding decode below groups longer
+unfolding decode limited groups longer
 example-ends = refl
 
 example-six : decode (128 ∷ 128 ∷ 128 ∷ 128 ∷ 128 ∷ 1 ∷ []) ≡ Err BadNumber
-unfolding decode below groups longer
+unfolding decode limited groups longer
 example-six = refl
 
 example-last : decode (255 ∷ 255 ∷ 255 ∷ 255 ∷ 15 ∷ []) ≡ Ok (2 ^ 32 - 1, 5)
-unfolding decode below groups longer
+unfolding decode limited groups longer
 example-last = refl
 
 example-over : decode (128 ∷ 128 ∷ 128 ∷ 128 ∷ 16 ∷ []) ≡ Err BadNumber
-unfolding decode below groups longer
+unfolding decode limited groups longer
 example-over = refl

@@ -16,7 +16,7 @@ use Rattle.model.specs.declared.refusal.Refusal.the-variants.{FileEndsEarly}
 use Rattle.wire.specs.declared.fault.Fault.{Fault}
 use Rattle.wire.specs.Numbers.{Decoded, encode, decode}
 use Rattle.wire.specs.Places.{Step, numberAt, placed, wrong}
-use Rattle.wire.specs.Grammar.{Format, Held, LawfulFormat, andThen, number, ranged, under, exactly, text, checked, both, mapped, many, writeAll, FineAll, repeated, counted, plain}
+use Rattle.wire.specs.Grammar.{Format, Held, LawfulFormat, andThen, number, ranged, below, since, exactly, text, checked, both, mapped, many, writeAll, FineAll, repeated, counted, plain}
 use Rattle.wire.proofs.Codec.{decode-encode, Canonical, canonical}
 
 -- the rest of a file, after what stands first
@@ -24,11 +24,11 @@ past : (xs rest bs : List ℕ) (p : ℕ) → drop p bs ≡ xs ++ rest → drop (
 past xs rest bs p e = sym (drop-drop (length xs) p bs) ∙ ap (drop (length xs)) e ∙ drop-append-seam xs rest
 
 -- a step that answered, taken apart
-then-ok : {A B : Type 0} (s : Step A) (f : A → ℕ → Step B) (b : B) (q : ℕ) → andThen s f ≡ Ok (b, q) → (a : A) × (p : ℕ) × (s ≡ Ok (a, p)) × (f a p ≡ Ok (b, q))
+pub then-ok : {A B : Type 0} (s : Step A) (f : A → ℕ → Step B) (b : B) (q : ℕ) → andThen s f ≡ Ok (b, q) → (a : A) × (p : ℕ) × (s ≡ Ok (a, p)) × (f a p ≡ Ok (b, q))
 then-ok (Ok x) f b q e = (x .0, x .1, refl, e)
 then-ok (Err k) f b q e = let z : _≡_ {A = ℕ} 0 1 = cc in absurd (omega arith)
 
-same-step : {A : Type 0} (a b : A) (p q : ℕ) → _≡_ {A = Step A} (Ok (a, p)) (Ok (b, q)) → (a ≡ b) × (p ≡ q)
+pub same-step : {A : Type 0} (a b : A) (p q : ℕ) → _≡_ {A = Step A} (Ok (a, p)) (Ok (b, q)) → (a ≡ b) × (p ≡ q)
 same-step {A} a b p q e = let i : _≡_ {A = A × ℕ} (a, p) (b, q) = cc in (ap (λ x. x .0) i, ap (λ x. x .1) i)
 
 -- a value that passed a test
@@ -84,8 +84,8 @@ ranged-lawful lo hi k top = record {
       record { fine = (low, high); front = h .1; long = h .2 };
 }
 
-pub under-lawful : (bound : ℕ) (k : Refusal) → bound ≤ 2 ^ 32 → LawfulFormat (under bound k)
-under-lawful bound k top = record {
+pub below-lawful : (bound : ℕ) (k : Refusal) → bound ≤ 2 ^ 32 → LawfulFormat (below bound k)
+below-lawful bound k top = record {
   back = λ n bs rest p fine e.
       ap (λ s. andThen s (λ n q. cond (ltb n bound) (Ok (n, q)) (Err (wrong k p)))) (number-back n bs rest p (omega arith) e)
       ∙ passes (ltb n bound) _ _ (lt-ltb n bound fine);
@@ -95,6 +95,27 @@ under-lawful bound k top = record {
       let h = number-held n bs p q (e₁ ∙ ap₂ (λ n q. Ok (n, q)) (s .1) (s .2)) in
       let small : n < bound = omega (arith, ltb-true m bound (s .0), s .1) in
       record { fine = small; front = h .1; long = h .2 };
+}
+
+pub since-lawful : (base lo hi : ℕ) (k : Refusal) → hi < 2 ^ 32 → LawfulFormat (since base lo hi k)
+since-lawful base lo hi k top = record {
+  back = λ m bs rest p fine e.
+      let whole : base + (m - base) ≡ m = omega (arith, fine .0) in
+      let low = le-leb lo (base + (m - base)) (omega (arith, whole, fine .1)) in
+      let high = le-leb (base + (m - base)) hi (omega (arith, whole, fine .2)) in
+      ap (λ s. andThen s (λ n q. cond (leb lo (base + n) && leb (base + n) hi) (Ok (base + n, q)) (Err (wrong k p)))) (number-back (m - base) bs rest p (omega (arith, fine .2)) e)
+      ∙ passes (leb lo (base + (m - base)) && leb (base + (m - base)) hi) _ _ (simp (low, high))
+      ∙ ap (λ n. Ok (n, p + length (encode (m - base)))) whole;
+  held = λ m bs p q e.
+      let (n, r, e₁, e₂) = then-ok (numberAt bs p) (λ n q. cond (leb lo (base + n) && leb (base + n) hi) (Ok (base + n, q)) (Err (wrong k p))) m q e in
+      let s = passed (leb lo (base + n) && leb (base + n) hi) (base + n) m r q (wrong k p) e₂ in
+      let t = and-true (leb lo (base + n)) (leb (base + n) hi) (s .0) in
+      let gap : n ≡ m - base = omega (arith, s .1) in
+      let h = number-held (m - base) bs p q (e₁ ∙ ap₂ (λ n q. Ok (n, q)) gap (s .2)) in
+      let from : base ≤ m = omega (arith, s .1) in
+      let low : lo ≤ m = omega (arith, leb-true lo (base + n) (t .0), s .1) in
+      let high : m ≤ hi = omega (arith, leb-true (base + n) hi (t .1), s .1) in
+      record { fine = (from, low, high); front = h .1; long = h .2 };
 }
 
 pub exactly-lawful : (n : ℕ) (k : Refusal) → n < 2 ^ 32 → LawfulFormat (exactly n k)
@@ -125,21 +146,21 @@ checked-lawful test k F f = record {
 
 -- one after the other
 
-pub both-lawful : {A B : Type 0} (F : Format A) (G : A → Format B) → LawfulFormat F → ((a : A) → LawfulFormat (G a)) → LawfulFormat (both F G)
+pub both-lawful : {A B : Type 0} (F : Format A) (G : A → Format B) → LawfulFormat F → ((a : A) → F .Fine a → LawfulFormat (G a)) → LawfulFormat (both F G)
 both-lawful {A} {B} F G f g = record {
   back = λ x bs rest p fine e.
       let a = F .write (x .0) in
       let b = G (x .0) .write (x .1) in
       let e′ = e ∙ append-assoc a b rest in
       ap (λ s. andThen s (λ a q. andThen (G a .read bs q) (λ b r. Ok ((a, b), r)))) (f .back (x .0) bs (b ++ rest) p (fine .0) e′)
-      ∙ ap (λ s. andThen s (λ b r. Ok ((x .0, b), r))) (g (x .0) .back (x .1) bs rest (p + length a) (fine .1) (past a (b ++ rest) bs p e′))
+      ∙ ap (λ s. andThen s (λ b r. Ok ((x .0, b), r))) (g (x .0) (fine .0) .back (x .1) bs rest (p + length a) (fine .1) (past a (b ++ rest) bs p e′))
       ∙ ap (λ k. Ok (x, k)) (omega (arith, length-append a b));
   held = λ x bs p q e.
       let (a, r, e₁, e₂) = then-ok (F .read bs p) (λ a q. andThen (G a .read bs q) (λ b r. Ok ((a, b), r))) x q e in
       let (b, t, e₃, e₄) = then-ok (G a .read bs r) (λ b r. Ok ((a, b), r)) x q e₂ in
       let s = same-step (a, b) x t q e₄ in
       let h = f .held a bs p r e₁ in
-      let k = g a .held b bs r t e₃ in
+      let k = g a (h .fine) .held b bs r t e₃ in
       subst (λ y. Held (both F G) bs p y q) (s .0) (subst (λ j. Held (both F G) bs p (a, b) j) (s .1) (record {
         fine = (h .fine, k .fine);
         front = h .front ∙ ap (λ l. F .write a ++ l) (k .front) ∙ sym (append-assoc (F .write a) (G a .write b) (drop t bs));
@@ -147,18 +168,20 @@ both-lawful {A} {B} F G f g = record {
       }));
 }
 
-pub mapped-lawful : {A B : Type 0} (to : A → B) (from : B → A) (F : Format A) → ((a : A) → from (to a) ≡ a) → LawfulFormat F → LawfulFormat (mapped to from F)
-mapped-lawful to from F same f = record {
+pub mapped-lawful : {A B : Type 0} (to : A → B) (from : B → A) (Fine : B → Type 0) (F : Format A) →
+    ((a : A) → F .Fine a → Fine (to a) × (from (to a) ≡ a)) → ((b : B) → Fine b → F .Fine (from b) × (to (from b) ≡ b)) → LawfulFormat F → LawfulFormat (mapped to from Fine F)
+mapped-lawful to from Fine F there again f = record {
   back = λ b bs rest p fine e.
-      ap (λ s. andThen s (λ a q. Ok (to a, q))) (f .back (from b) bs rest p (fine .0) e) ∙ ap (λ x. Ok (x, p + length (F .write (from b)))) (fine .1);
+      ap (λ s. andThen s (λ a q. Ok (to a, q))) (f .back (from b) bs rest p (again b fine .0) e) ∙ ap (λ x. Ok (x, p + length (F .write (from b)))) (again b fine .1);
   held = λ b bs p q e.
       let (a, r, e₁, e₂) = then-ok (F .read bs p) (λ a q. Ok (to a, q)) b q e in
       let s = same-step (to a) b r q e₂ in
       let h = f .held a bs p r e₁ in
-      subst (λ y. Held (mapped to from F) bs p y q) (s .0) (subst (λ j. Held (mapped to from F) bs p (to a) j) (s .1) (record {
-        fine = (subst (F .Fine) (sym (same a)) (h .fine), ap to (same a));
-        front = h .front ∙ ap (λ x. F .write x ++ drop r bs) (sym (same a));
-        long = h .long ∙ ap (λ x. p + length (F .write x)) (sym (same a));
+      let t = there a (h .fine) in
+      subst (λ y. Held (mapped to from Fine F) bs p y q) (s .0) (subst (λ j. Held (mapped to from Fine F) bs p (to a) j) (s .1) (record {
+        fine = t .0;
+        front = h .front ∙ ap (λ x. F .write x ++ drop r bs) (sym (t .1));
+        long = h .long ∙ ap (λ x. p + length (F .write x)) (sym (t .1));
       }));
 }
 

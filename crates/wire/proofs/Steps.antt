@@ -11,8 +11,8 @@ use Rattle.wire.specs.declared.fault.Fault.{Fault}
 use Rattle.wire.specs.declared.reader.Reader.{Reader}
 use Rattle.wire.specs.Places.{Step, valueOf, placeAfter}
 use Rattle.wire.specs.Readers.{file, Reads}
-use Rattle.wire.specs.Grammar.{Format, LawfulFormat, andThen, ranged, under, many, counted}
-use Rattle.wire.proofs.Laws.{ranged-lawful, under-lawful}
+use Rattle.wire.specs.Grammar.{Format, LawfulFormat, andThen, ranged, many, counted}
+use Rattle.wire.proofs.Laws.{ranged-lawful}
 
 -- to say what a call read
 pub reads-by-ok : {A : Type 0} (f : List ℕ → ℕ → Step A) (before after : Reader) (x : A) → f (file before) (before .at) ≡ Ok (x, after .at) → after .bytes ≡ before .bytes → Reads f before after (Ok x)

@@ -14,7 +14,7 @@ use Rattle.std.specs.declared.result.Result.{Result}
 use Rattle.std.specs.declared.result.Result.the-variants.{Ok, Err}
 use Rattle.model.specs.declared.refusal.Refusal.{Refusal}
 use Rattle.model.specs.declared.refusal.Refusal.the-variants.{FileEndsEarly, BadNumber}
-use Rattle.wire.specs.Numbers.{Decoded, longer, groups, below, decode}
+use Rattle.wire.specs.Numbers.{Decoded, longer, groups, limited, decode}
 use Rattle.wire.proofs.Codec.{groups-low, groups-high, longer-more}
 
 -- i groups of value v, each marked, before the groups of a number; s is 128 ^ i
@@ -91,17 +91,17 @@ more {bs} {i} {v} {s} h few inside mark byte =
 pub last : {bs : List ℕ} {i v s : ℕ} → Going bs i v s → i < 5 → i < length bs → getD bs i 0 < 128 → groups 5 bs ≡ onto i v s (Ok (getD bs i 0, 1))
 last {bs} {i} {v} {s} h few inside low = h .same ∙ ap (onto i v s) (at-group bs i few inside ∙ groups-low (4 - i) (getD bs i 0) (drop (suc i) bs) low)
 
-below-err : (k : Refusal) → below (2 ^ 32) (Err k) ≡ Err k
-unfolding below
-below-err k = refl
+limited-err : (k : Refusal) → limited (2 ^ 32) (Err k) ≡ Err k
+unfolding limited
+limited-err k = refl
 
-below-fits : (n m : ℕ) → n < 2 ^ 32 → below (2 ^ 32) (Ok (n, m)) ≡ Ok (n, m)
-unfolding below
-below-fits n m h = let t = lt-ltb n (2 ^ 32) h in simp t
+limited-fits : (n m : ℕ) → n < 2 ^ 32 → limited (2 ^ 32) (Ok (n, m)) ≡ Ok (n, m)
+unfolding limited
+limited-fits n m h = let t = lt-ltb n (2 ^ 32) h in simp t
 
-below-large : (n m : ℕ) → 2 ^ 32 ≤ n → below (2 ^ 32) (Ok (n, m)) ≡ Err BadNumber
-unfolding below
-below-large n m h = let t = le-ltb n (2 ^ 32) h in simp t
+limited-large : (n m : ℕ) → 2 ^ 32 ≤ n → limited (2 ^ 32) (Ok (n, m)) ≡ Err BadNumber
+unfolding limited
+limited-large n m h = let t = le-ltb n (2 ^ 32) h in simp t
 
 onto-err : (i v s : ℕ) (k : Refusal) → onto i v s (Err k) ≡ Err k
 unfolding onto
@@ -120,7 +120,7 @@ onto-last (suc i) v s g p q h = onto-some i v s g 1 (omega (arith, h (omega arit
 
 pub shortest : {bs : List ℕ} {i v s : ℕ} → Going bs i v s → i < 5 → i < length bs → getD bs i 0 ≡ 0 → 0 < i → decode bs ≡ Err BadNumber
 unfolding decode
-shortest {bs} {i} {v} {s} h few inside z some = ap (below (2 ^ 32)) (last h few inside (omega arith) ∙ ap (λ g. onto i v s (Ok (g, 1))) z ∙ onto-zero i v s 1 some) ∙ below-err BadNumber
+shortest {bs} {i} {v} {s} h few inside z some = ap (limited (2 ^ 32)) (last h few inside (omega arith) ∙ ap (λ g. onto i v s (Ok (g, 1))) z ∙ onto-zero i v s 1 some) ∙ limited-err BadNumber
 
 pub large : {bs : List ℕ} {i v s : ℕ} → Going bs i v s → i < 5 → i < length bs → getD bs i 0 < 128 → 2 ^ 32 ≤ v + getD bs i 0 * s → decode bs ≡ Err BadNumber
 unfolding decode
@@ -128,12 +128,12 @@ large {bs} {i} {v} {s} h few inside low big =
     let g : ℕ = getD bs i 0 in
     let small = room 0 h few (omega arith) .0 in
     let some : g ≡ 0 → ⊥ = λ z. let b : 2 ^ 32 ≤ v + 0 * s = rw z at big in omega arith in
-    ap (below (2 ^ 32)) (last h few inside low ∙ onto-last i v s g (h .scaled) (h .small) (λ _. some)) ∙ below-large (v + g * s) (i + 1) big
+    ap (limited (2 ^ 32)) (last h few inside low ∙ onto-last i v s g (h .scaled) (h .small) (λ _. some)) ∙ limited-large (v + g * s) (i + 1) big
 
 pub fits : {bs : List ℕ} {i v s : ℕ} → Going bs i v s → i < 5 → i < length bs → getD bs i 0 < 128 → (0 < i → getD bs i 0 ≡ 0 → ⊥) → v + getD bs i 0 * s < 2 ^ 32 → decode bs ≡ Ok (v + getD bs i 0 * s, i + 1)
 unfolding decode
 fits {bs} {i} {v} {s} h few inside low some small =
-    ap (below (2 ^ 32)) (last h few inside low ∙ onto-last i v s (getD bs i 0) (h .scaled) (h .small) some) ∙ below-fits (v + getD bs i 0 * s) (i + 1) small
+    ap (limited (2 ^ 32)) (last h few inside low ∙ onto-last i v s (getD bs i 0) (h .scaled) (h .small) some) ∙ limited-fits (v + getD bs i 0 * s) (i + 1) small
 
 groups-none : (f : ℕ) → groups (suc f) [] ≡ Err FileEndsEarly
 unfolding groups
@@ -147,10 +147,10 @@ pub ends : {bs : List ℕ} {i v s : ℕ} → Going bs i v s → length bs < 5 �
 unfolding decode
 ends {bs} {i} {v} {s} h few all =
     let none : drop i bs ≡ [] = drop-of-length-le bs (omega arith) in
-    ap (below (2 ^ 32)) (h .same ∙ ap (onto i v s) (ap₂ groups (omega arith) none ∙ groups-none (4 - i)) ∙ onto-err i v s FileEndsEarly) ∙ below-err FileEndsEarly
+    ap (limited (2 ^ 32)) (h .same ∙ ap (onto i v s) (ap₂ groups (omega arith) none ∙ groups-none (4 - i)) ∙ onto-err i v s FileEndsEarly) ∙ limited-err FileEndsEarly
 
 pub over : {bs : List ℕ} {i v s : ℕ} → Going bs i v s → i ≡ 5 → decode bs ≡ Err BadNumber
 unfolding decode
 over {bs} {i} {v} {s} h all =
     let none : 5 - i ≡ 0 = omega arith in
-    ap (below (2 ^ 32)) (h .same ∙ ap (onto i v s) (ap (λ k. groups k (drop i bs)) none ∙ groups-over (drop i bs)) ∙ onto-err i v s BadNumber) ∙ below-err BadNumber
+    ap (limited (2 ^ 32)) (h .same ∙ ap (onto i v s) (ap (λ k. groups k (drop i bs)) none ∙ groups-over (drop i bs)) ∙ onto-err i v s BadNumber) ∙ limited-err BadNumber

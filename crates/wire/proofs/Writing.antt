@@ -1,4 +1,4 @@
--- What a turn of `encoded` keeps.
+-- Writing a number, a group at a time, and what is written at a place.
 use mathlib.Core.Path.{_≡_, refl, sym, ap, ap₂, subst, _∙_}
 use mathlib.Core.Bool.{true, false, cond}
 use mathlib.Core.List.{List, [], _∷_, _++_}
@@ -13,10 +13,8 @@ use Rattle.std.proofs.shelf.Parts.{putMid-paste}
 use Rattle.std.proofs.shelf.Edits.{paste-paste}
 use borrow.Rule.Slice.PartMut.{putMid}
 use lib.Dec.{ltb}
-use Rattle.std.specs.declared.result.Result.the-variants.{Ok, Err}
-use Rattle.model.specs.declared.refusal.Refusal.the-variants.{OutputShort}
 use Rattle.wire.specs.Numbers.{groupsOf, encode}
-use Rattle.wire.specs.Outputs.{Writes}
+use Rattle.wire.specs.Outputs.{Puts}
 use Rattle.wire.proofs.Codec.{groupsOf-low, groupsOf-high}
 
 length-low : (f n : ℕ) → n < 128 → length (groupsOf (suc f) n) ≡ 1
@@ -109,10 +107,10 @@ module _ {n at : ℕ} {d out : List ℕ} {i rest : ℕ} (h : Writing n at d out 
       let same : length out ≡ length d = ap length (h .done) ∙ length-paste d at (encode n) i (omega arith) low in
       (omega arith, omega arith, ap₂ (λ l b. set l (at + i) b) (h .done) (sym (e .1)) ∙ paste-suc d at (encode n) i 0 within inside ∙ ap (paste d at (encode n)) (sym long))
 
-pub wrote : (bytes : List ℕ) (at : ℕ) (d out : List ℕ) (to : ℕ) → to ≡ at + length bytes → to ≤ length d → out ≡ paste d at bytes (length bytes) → Writes bytes at d out (Ok to)
+pub wrote : (bytes : List ℕ) (at : ℕ) (d out : List ℕ) (to : ℕ) → to ≡ at + length bytes → to ≤ length d → out ≡ paste d at bytes (length bytes) → Puts bytes at d out to
 wrote bytes at d out to is room e =
     let t = le-leb (at + length bytes) (length d) (omega arith) in
-    record { value = simp t (ap Ok is); output = simp t e }
+    record { place = simp t is; output = simp t e }
 
 -- one part written after another
 pub after-paste : (d : List ℕ) (at : ℕ) (xs ys mid out : List ℕ) (from k : ℕ) → at ≤ length d → mid ≡ paste d at xs (length xs) → from ≡ at + length xs → out ≡ ys → length ys ≡ k →
@@ -131,5 +129,11 @@ pub few-bytes : (n : ℕ) → length (encode n) ≤ 5
 unfolding encode
 few-bytes n = few-groups 5 n
 
-pub short : (bytes : List ℕ) (at : ℕ) (d : List ℕ) → length d < at + length bytes → Writes bytes at d d (Err OutputShort)
-short bytes at d over = let t = lt-leb (at + length bytes) (length d) over in record { value = simp t; output = simp t }
+pub short : (bytes : List ℕ) (at : ℕ) (d : List ℕ) → length d < at + length bytes → Puts bytes at d d at
+short bytes at d over = let t = lt-leb (at + length bytes) (length d) over in record { place = simp t; output = simp t }
+
+-- what was put where there is room
+pub put-room : {bytes : List ℕ} {at : ℕ} {d out : List ℕ} {r : ℕ} → Puts bytes at d out r → at + length bytes ≤ length d → (r ≡ at + length bytes) × (out ≡ paste d at bytes (length bytes))
+put-room {bytes} {at} {d} h room =
+    let t = le-leb (at + length bytes) (length d) room in
+    (h .place ∙ ap (λ b. cond b (at + length bytes) at) t, h .output ∙ ap (λ b. cond b (paste d at bytes (length bytes)) d) t)

@@ -48,11 +48,19 @@ ranged lo hi k = record {
 }
 
 -- a number below a bound: any other is the fault k
-abbrev pub under : ℕ → Refusal → Format ℕ
-under bound k = record {
+abbrev pub below : ℕ → Refusal → Format ℕ
+below bound k = record {
   read = λ bs p. andThen (numberAt bs p) (λ n q. cond (ltb n bound) (Ok (n, q)) (Err (wrong k p)));
   write = encode;
   Fine = λ n. n < bound;
+}
+
+-- a number from lo to hi, given by its distance from a base: any other is the fault k
+abbrev pub since : ℕ → ℕ → ℕ → Refusal → Format ℕ
+since base lo hi k = record {
+  read = λ bs p. andThen (numberAt bs p) (λ n q. cond (leb lo (base + n) && leb (base + n) hi) (Ok (base + n, q)) (Err (wrong k p)));
+  write = λ m. encode (m - base);
+  Fine = λ m. (base ≤ m) × (lo ≤ m) × (m ≤ hi);
 }
 
 -- the number n itself; any other is the fault k
@@ -88,11 +96,11 @@ both F G = record {
 }
 
 -- the same bytes, for another type of values
-abbrev pub mapped : {A B : Type 0} → (A → B) → (B → A) → Format A → Format B
-mapped to from F = record {
+abbrev pub mapped : {A B : Type 0} → (A → B) → (B → A) → (B → Type 0) → Format A → Format B
+mapped to from Fine F = record {
   read = λ bs p. andThen (F .read bs p) (λ a q. Ok (to a, q));
   write = λ b. F .write (from b);
-  Fine = λ b. F .Fine (from b) × (to (from b) ≡ b);
+  Fine = Fine;
 }
 
 -- n of them, one after the other; `s` is what the earlier ones say of the next, as the last departure

@@ -33,9 +33,9 @@ groups zero bs = Err BadNumber
 groups (suc f) [] = Err FileEndsEarly
 groups (suc f) (b ∷ bs) = cond (ltb b 128) (Ok (b, 1)) (cond (ltb b 256) (longer b (groups f bs)) (Err BadNumber))
 
-unfoldable pub below : ℕ → Decoded → Decoded
-below m (Ok x) = cond (ltb (x .0) m) (Ok x) (Err BadNumber)
-below m (Err k) = Err k
+unfoldable pub limited : ℕ → Decoded → Decoded
+limited m (Ok x) = cond (ltb (x .0) m) (Ok x) (Err BadNumber)
+limited m (Err k) = Err k
 
 unfoldable pub decode : List ℕ → Decoded
-decode bs = below (2 ^ 32) (groups 5 bs)
+decode bs = limited (2 ^ 32) (groups 5 bs)

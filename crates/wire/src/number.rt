@@ -5,7 +5,7 @@ ghost use Prim.Native.Nat.{_+_, _≤_};
 ghost use lib.ListN.{length};
 ghost use lib.Seq.{paste};
 ghost use Rattle.wire.specs.Numbers.{decode, encode};
-ghost use Rattle.wire.specs.Outputs.{Writes};
+ghost use Rattle.wire.specs.Outputs.{Puts};
 use model::Refusal;
 
 /// A number takes at most this many bytes.
@@ -70,12 +70,13 @@ fn write(n: u32, out: &mut [u8], at: usize) -> usize
     at + i + 1
 }
 
-/// Writes a number at a place of `out`, and answers the place after it. An output too short is left as it is.
-pub fn put(n: u32, out: &mut [u8], at: usize) -> Result<usize, Refusal>
-    ensures { λ r. ⌜ Writes (encode n) at (now (out .entry)) (now (out .exit)) r ⌝ }
+/// Writes a number at a place of `out`, and answers the place after it. Where there is no room for all of it nothing is written,
+/// and the answer is the place itself.
+pub fn put(n: u32, out: &mut [u8], at: usize) -> usize
+    ensures { λ r. ⌜ Puts (encode n) at (now (out .entry)) (now (out .exit)) r ⌝ }
 {
     if at > out.len() || out.len() - at < encoded_len(n) {
-        return Err(Refusal::OutputShort);
+        return at;
     }
-    Ok(write(n, out, at))
+    write(n, out, at)
 }

@@ -2,7 +2,7 @@
 ghost use mathlib.Core.Path.{_≡_};
 ghost use lib.ListN.{take, drop, length};
 ghost use Rattle.wire.specs.Places.{numberAt};
-ghost use Rattle.wire.specs.Grammar.{ranged, under, exactly, text};
+ghost use Rattle.wire.specs.Grammar.{ranged, below, since, exactly, text};
 ghost use Rattle.wire.specs.Readers.{Reads, file, viewed};
 use crate::fault::Fault;
 use crate::number::decoded;
@@ -55,13 +55,32 @@ impl<'a> Reader<'a> {
     }
 
     /// A number below `bound`; any other is refused.
-    pub fn number_under(&mut self, bound: u32, refusal: Refusal) -> Result<u32, Fault>
-        ensures { λ r. ⌜ Reads (under bound refusal .read) (now (self .entry)) (now (self .exit)) r ⌝ }
+    pub fn number_below(&mut self, bound: u32, refusal: Refusal) -> Result<u32, Fault>
+        ensures { λ r. ⌜ Reads (below bound refusal .read) (now (self .entry)) (now (self .exit)) r ⌝ }
     {
         let at = self.at;
         let n = self.number()?;
         if n < bound {
             Ok(n)
+        } else {
+            Err(Fault { refusal, at })
+        }
+    }
+
+    /// A number from `low` to `high`, given by its distance from `base`; any other is refused.
+    pub fn number_since(
+        &mut self,
+        base: u32,
+        low: u32,
+        high: u32,
+        refusal: Refusal,
+    ) -> Result<u32, Fault>
+        ensures { λ r. ⌜ Reads (since base low high refusal .read) (now (self .entry)) (now (self .exit)) r ⌝ }
+    {
+        let at = self.at;
+        let n = base as u64 + self.number()? as u64;
+        if low as u64 <= n && n <= high as u64 {
+            Ok(n as u32)
         } else {
             Err(Fault { refusal, at })
         }
