@@ -9,7 +9,9 @@ use crate::fault::NetworkFault;
 use model::Arc;
 
 const MOST_STOPS: u32 = 1_024;
+
 const MOST_ARCS: usize = 8_192;
+
 const LABELS: u32 = 6;
 
 /// The stops `0..stops`, and the arcs between them by ascending tail.
