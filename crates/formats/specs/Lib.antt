@@ -1,0 +1,4 @@
+pub mod Contents
+pub mod NetworkFile
+pub mod RuleFile
+pub mod Theorems
