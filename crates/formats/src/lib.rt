@@ -2,4 +2,5 @@
 mod theorems;
 
 pub use theorems::network_files_go_both_ways;
+pub use theorems::numbers_of_a_file;
 pub use theorems::rule_files_go_both_ways;
