@@ -24,6 +24,10 @@ both-some k None u n h = let z : _≡_ {A = ℕ} 0 1 = cc in absurd (omega arith
 both-some k (Some i) None n h = let z : _≡_ {A = ℕ} 0 1 = cc in absurd (omega arith)
 both-some k (Some i) (Some j) n h = (i, j, refl, refl, (cc))
 
+-- the state of a pair that fits is below the most
+pub both-below : (i j m n : ℕ) → i < m → j < n → m * n ≤ most-pair-states → i * n + j < most-pair-states
+both-below i j m n il jl fits = omega (arith, mul-add-lt i n j m il jl, mul-comm m n)
+
 both-none : (k : ℕ) (o : Option ℕ) → both k o None ≡ None
 both-none k None = refl
 both-none k (Some i) = refl
@@ -104,9 +108,10 @@ module _ (a b : Automaton) (p : LawfulRule a) (q : LawfulRule b) where
     only = λ word h.
         let t = both-some (b .states) (leads (a .next) 0 word) (leads (b .next) 0 word) (h .last) (sym (from-start word) ∙ h .led) in
         let jl = leads-below b q 0 word (t .1) wide (t .3) in
-        let ends = and-true (a .ends (h .last / b .states)) (b .ends (h .last % b .states)) (h .ending) in
-        (record { last = t .0; led = t .2; ending = ap (λ s. a .ends s) (sym (ap (λ s. s / b .states) (t .4) ∙ div-mul-add (t .0) (b .states) (t .1) jl)) ∙ ends .0 },
-         record { last = t .1; led = t .3; ending = ap (λ s. b .ends s) (sym (ap (λ s. s % b .states) (t .4) ∙ mod-mul-add (t .0) (b .states) (t .1) jl)) ∙ ends .1 });
+        let ends = and-true (a .ends (h .last / b .states)) (b .ends (h .last % b .states)) (h .ending) in (
+          record { last = t .0; led = t .2; ending = ap (λ s. a .ends s) (sym (ap (λ s. s / b .states) (t .4) ∙ div-mul-add (t .0) (b .states) (t .1) jl)) ∙ ends .0 },
+          record { last = t .1; led = t .3; ending = ap (λ s. b .ends s) (sym (ap (λ s. s % b .states) (t .4) ∙ mod-mul-add (t .0) (b .states) (t .1) jl)) ∙ ends .1 },
+        );
     all = λ word h.
         let jl = leads-below b q 0 word (h .1 .last) wide (h .1 .led) in
         record {
