@@ -1,0 +1,3 @@
+//! The loader of rule files.
+mod marks;
+mod step;
