@@ -71,7 +71,7 @@ impl<'a> Reader<'a> {
     pub fn number_since(
         &mut self,
         base: u32,
-        low: u32,
+        low: u64,
         high: u32,
         refusal: Refusal,
     ) -> Result<u32, Fault>
@@ -79,7 +79,7 @@ impl<'a> Reader<'a> {
     {
         let at = self.at;
         let n = base as u64 + self.number()? as u64;
-        if low as u64 <= n && n <= high as u64 {
+        if low <= n && n <= high as u64 {
             Ok(n as u32)
         } else {
             Err(Fault { refusal, at })
