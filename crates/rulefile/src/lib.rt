@@ -1,0 +1,4 @@
+//! The loader of rule files.
+mod marks;
+mod step;
+mod steps;
