@@ -1,0 +1,52 @@
+//! The search itself.
+ghost use mathlib.Core.Path.{_≡_};
+ghost use Prim.Native.Nat.{ℕ, _+_, _*_, _^_, _<_, _≤_};
+ghost use lib.ListN.{length, set};
+ghost use Rattle.std.specs.declared.option.Option.the-variants.{Some};
+ghost use Rattle.labels.specs.Table.{settle, turn as turn-of};
+ghost use Rattle.model.specs.Trips.{world, place};
+ghost use Rattle.queue.specs.Contents.{contents, capacity};
+ghost use Rattle.labels.specs.Rows.{view, place-of, relaxed-count};
+ghost use Rattle.engine.specs.Agenda.{Agenda, Ended};
+use crate::begin::begin;
+use crate::entry::Entry;
+use crate::entry::EntryRanked;
+use crate::next::next;
+use crate::relax::relax;
+use book::Book;
+use labels::Label;
+use model::Place;
+use network::Network;
+use queue::Queue;
+use rules::Rule;
+
+/// Settles the place of that number, which has the label, and relaxes the arcs out of it.
+fn turn<B: Book, R: Rule>(
+    network: Network<'_>,
+    book: &B,
+    rule: &R,
+    labels: &mut [Option<Label>],
+    queue: &mut Queue<'_, Entry>,
+    number: u32,
+    label: Label,
+)
+    requires size { ⌜ length (now labels) ≡ network .stops * R·Rule .automaton (now rule) .states ⌝ ∗ ⌜ number < length (now labels) ⌝ ∗ ⌜ label .legs < 2 ^ 31 ⌝ }
+    requires agenda { ⌜ Agenda (set (now labels) number (Some (settle label))) (now queue) ⌝ }
+    requires room { ⌜ length (contents (now queue)) ≤ relaxed-count (now (network .arcs)) (R·Rule .automaton (now rule) .states) (now labels) ⌝ ∗ ⌜ 1 + length (now (network .arcs)) * R·Rule .automaton (now rule) .states ≤ capacity (now queue) ⌝ }
+    ensures table { λ _. ⌜ view (R·Rule .automaton (now (rule .entry)) .states) (now (labels .exit)) ≡ turn-of (world (now (network .entry .arcs)) (B·Book .answer (now (book .entry))) (R·Rule .automaton (now (rule .entry)))) (place-of (R·Rule .automaton (now (rule .entry)) .states) number) label (view (R·Rule .automaton (now (rule .entry)) .states) (now (labels .entry))) ⌝ }
+    ensures agenda { λ _. ⌜ Agenda (now (labels .exit)) (now (queue .exit)) ⌝ }
+    ensures room { λ _. ⌜ capacity (now (queue .exit)) ≡ capacity (now (queue .entry)) ⌝ }
+{
+    let states = rule.states();
+    let from = Place {
+        stop: number / states,
+        state: number % states,
+    };
+    let settled = Label {
+        settled: true,
+        ..label
+    };
+    labels[number as usize] = Some(settled);
+    let range = network.leaving(from.stop);
+    relax(network, range, book, rule, labels, queue, from, settled);
+}
