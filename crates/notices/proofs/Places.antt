@@ -8,7 +8,7 @@ use lib.Dec.{eqb, ltb}
 use lib.ListN.{length, getD, set, drop}
 use Rattle.std.specs.shelf.Lists.{removed}
 use Rattle.std.proofs.shelf.Lists.{at-drop-more}
-use Rattle.std.proofs.shelf.Tests.{eqb-true, ltb-false}
+use Rattle.std.proofs.shelf.Tests.{eqb-true}
 use Rattle.std.proofs.shelf.Ways.{tells}
 use Rattle.std.specs.declared.option.Option.the-variants.{Some, None}
 use Rattle.notices.specs.declared.notice.Notice.{Notice}
@@ -92,20 +92,8 @@ lift-removed s (m ∷ ms) h =
       | false ↦ λ l. ap (λ (r : List Notice). m ∷ r) (lift-removed s ms (omega arith))
     ] h
 
-pub lift-none : (s : ℕ) (ns : List Notice) → length ns ≤ place-of s ns → lift-from s ns ≡ ns
-lift-none s [] h = refl
-lift-none s (m ∷ ms) h =
-    let p = place-of s ms in
-    elim (eqb (m .service) s) as (λ b. suc (length ms) ≤ cond b 0 (suc p) → cond b ms (m ∷ lift-from s ms) ≡ m ∷ ms) [
-      | true ↦ λ l. absurd (omega arith)
-      | false ↦ λ l. ap (λ (r : List Notice). m ∷ r) (lift-none s ms (omega arith))
-    ] h
-
 pub amended-same : (n m : Notice) → n .service ≡ m .service → amended n m ≡ m
 amended-same n m e = ap (λ s. amended (record { service = s; lateness = 0; shut = 0; until = 0 }) m) e
-
-pub lift-absent : (s : ℕ) (ns : List Notice) → false ≡ has s ns → lift-from s ns ≡ ns
-lift-absent s ns e = lift-none s ns (ltb-false _ _ (sym (has-place s ns) ∙ sym e))
 
 pub notice-here : (s : ℕ) (ns : List Notice) (d : Notice) → place-of s ns < length ns → Some (getD ns (place-of s ns) d) ≡ notice-of s ns
 notice-here s [] d h = absurd (omega arith)

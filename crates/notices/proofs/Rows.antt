@@ -18,7 +18,7 @@ use Rattle.notices.specs.declared.notice.Notice.{Notice}
 use Rattle.model.specs.declared.refusal.Refusal.{Refusal}
 use Rattle.model.specs.declared.refusal.Refusal.the-variants.{NoticesFull, NothingToLift}
 use Rattle.notices.specs.Notices.{place-of, others, has, put-in, lift-from, amended, notice-of, put-refusal, lift-refusal, unless}
-use Rattle.notices.proofs.Places.{place-le, place-on, place-here, place-service, others-le, others-fewer, others-all, put-set, put-push, has-place, lift-removed, lift-none, amended-same, notice-here, notice-none}
+use Rattle.notices.proofs.Places.{place-le, place-on, place-here, place-service, others-le, others-fewer, others-all, put-set, put-push, has-place, lift-removed, amended-same, notice-here, notice-none}
 
 abbrev pub blank : Notice
 blank = record { service = 0; lateness = 0; shut = 0; until = 0 }
@@ -87,11 +87,11 @@ module _ (items : List Notice) (len : ℕ) (in′ : len ≤ length items) where
       let l = held-length in
       cond-false _ _ _ (le-ltb (others (n .service) (take len items)) 64 (omega (arith, others-all (n .service) (take len items) (omega arith))))
 
-  pub none-to-lift : (s p : ℕ) → p ≡ place-of s (take len items) → len ≤ p → (lift-refusal s (take len items) ≡ Some NothingToLift) × (take len items ≡ lift-from s (take len items))
+  pub none-to-lift : (s p : ℕ) → p ≡ place-of s (take len items) → len ≤ p → lift-refusal s (take len items) ≡ Some NothingToLift
   none-to-lift s p e h =
       let L = take len items in
       let l = held-length in
-      (cond-false _ _ _ (has-place s L ∙ le-ltb _ _ (omega arith)), sym (lift-none s L (omega arith)))
+      cond-false _ _ _ (has-place s L ∙ le-ltb _ _ (omega arith))
 
   pub one-to-lift : (s p : ℕ) → p ≡ place-of s (take len items) → p < len → (lift-refusal s (take len items) ≡ None) × (removed (take len items) p ≡ lift-from s (take len items))
   one-to-lift s p e h =

@@ -71,7 +71,7 @@ impl NoticeTable {
     /// Takes the service's notice out and closes the gap; refused where it has none.
     pub fn lift(&mut self, service: u32) -> Result<(), Refusal>
         ensures answer { λ r. ⌜ r ≡ handing tt (lift-refusal service (listed (now (self .entry)))) ⌝ }
-        ensures after { λ _. ⌜ listed (now (self .exit)) ≡ lift-from service (listed (now (self .entry))) ⌝ }
+        ensures after { λ _. ⌜ listed (now (self .exit)) ≡ unless (lift-refusal service (listed (now (self .entry)))) (lift-from service (listed (now (self .entry)))) (listed (now (self .entry))) ⌝ }
     {
         let at = self.place(service);
         if at >= self.len {
