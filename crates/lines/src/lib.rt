@@ -26,7 +26,10 @@ pub impl fmt::Display for JourneyLine as JourneyLineDisplay {
         let second = self.enquiry.second;
         let arrival = self.found.arrival;
         let legs = self.found.legs;
-        write!(f, "journey {start} {target} {second} arrives {arrival} legs {legs}")
+        write!(
+            f,
+            "journey {start} {target} {second} arrives {arrival} legs {legs}"
+        )
     }
 }
 
