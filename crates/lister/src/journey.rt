@@ -5,7 +5,6 @@ use crate::ranks::eager;
 use crate::trips::Trips;
 use crate::world::STATES;
 use crate::world::World;
-use model::Enquiry;
 use model::Leg;
 use model::Place;
 use std::alloc::AllocError;
@@ -124,16 +123,31 @@ fn traced(
     })
 }
 
-/// The journey that answers an enquiry, or none where no trip suits it.
-pub fn answer(
-    world: &World,
-    enquiry: Enquiry,
-    heap: Global,
-) -> Result<Option<Journey>, AllocError> {
-    let trips = Trips::list(world, enquiry.start, enquiry.second);
-    let ranks = Ranks::of(world, &trips, enquiry.start);
-    match chosen(world, &trips, &ranks, enquiry.target) {
-        Some(to) => Ok(Some(traced(world, &trips, &ranks, to, heap)?)),
-        None => Ok(None),
+/// All trips from a stop at a second, with the ranks of the places that they end at.
+#[derive(Drop)]
+pub struct Listing<'a> {
+    world: World<'a>,
+    trips: Trips,
+    ranks: Ranks,
+}
+
+impl<'a> Listing<'a> {
+    /// All trips from a stop that set out at a second or later.
+    pub fn of(world: World<'a>, start: u32, second: u32) -> Listing<'a> {
+        let trips = Trips::list(&world, start, second);
+        let ranks = Ranks::of(&world, &trips, start);
+        Listing {
+            world,
+            trips,
+            ranks,
+        }
+    }
+
+    /// The tie rule's journey to a stop, or none where no trip ends there in an end state.
+    pub fn journey(&self, target: u32, heap: Global) -> Result<Option<Journey>, AllocError> {
+        match chosen(&self.world, &self.trips, &self.ranks, target) {
+            Some(to) => Ok(Some(traced(&self.world, &self.trips, &self.ranks, to, heap)?)),
+            None => Ok(None),
+        }
     }
 }

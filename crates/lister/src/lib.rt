@@ -5,7 +5,7 @@ mod trips;
 mod world;
 
 pub use journey::Journey;
-pub use journey::answer;
+pub use journey::Listing;
 pub use world::SECONDS;
 pub use world::STATES;
 pub use world::STOPS;
