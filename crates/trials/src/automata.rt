@@ -10,6 +10,25 @@ pub struct Automaton {
     pub ends: Vec<bool>,
 }
 
+impl Automaton {
+    /// The same automaton again.
+    pub fn copy(&self, heap: Global) -> Result<Automaton, AllocError> {
+        Ok(Automaton {
+            next: Vec::from_slice(heap, self.next.as_slice())?,
+            ends: Vec::from_slice(heap, self.ends.as_slice())?,
+        })
+    }
+
+    /// All next states in a row, six for each state.
+    pub fn steps(&self, heap: Global) -> Result<Vec<Option<u32>>, AllocError> {
+        let mut steps = Vec::new(heap);
+        for row in self.next.iter() {
+            steps.extend_from_slice(row)?;
+        }
+        Ok(steps)
+    }
+}
+
 /// One random row of next states below `states`.
 fn random_row(dice: &mut Dice, states: u32) -> [Option<u32>; 6] {
     let mut row = [None; 6];

@@ -32,7 +32,7 @@ impl Tables {
             points: Vec::new(heap),
             roads: Vec::new(heap),
         };
-        for _ in 0..dice.upto(2) {
+        for _ in 0..dice.upto(1) + 1 {
             tables.walks.push(dice.upto(3))?;
         }
         for _ in 0..dice.upto(2) {
