@@ -9,13 +9,11 @@ use Rattle.std.proofs.shelf.Sorted.{rises-from-neighbours}
 use Rattle.std.proofs.shelf.Lists.{getD-default}
 use Rattle.std.proofs.shelf.Tests.{cases-lt}
 use Rattle.model.specs.declared.network.Arc.{Arc}
+use Rattle.network.proofs.Passing.{none}
 use Rattle.network.specs.Sound.{Ascending, Cut, Fit, Leaving}
 
 pub climbs : (arcs : List Arc) → Ascending arcs → (i j : ℕ) (d : Arc) → i ≤ j → j < length arcs → getD arcs i d .tail ≤ getD arcs j d .tail
 climbs arcs up = rises-from-neighbours (λ a. a .tail) arcs up
-
-none : Arc
-none = record { tail = 0; head = 0; label = 0; service = 0 }
 
 -- between the cuts at a stop and at the next lie the arcs that leave it
 pub leaving-from-cuts : (arcs : List Arc) (stop a b : ℕ) → Cut arcs stop a → Cut arcs (stop + 1) b → Leaving arcs stop (record { first = a; end = b })

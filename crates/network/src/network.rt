@@ -2,8 +2,9 @@
 ghost use mathlib.Core.Path.{_≡_};
 ghost use mathlib.Core.List.{[]};
 ghost use Rattle.std.specs.declared.result.Result.the-variants.{Ok, Err};
+ghost use Rattle.std.specs.Orderings.{Decides};
 ghost use denote.Ref.{now};
-ghost use Rattle.network.specs.Sound.{Counted, Fit, Ascending, inRange, faultOf, verdict, Cut, Leaving};
+ghost use Rattle.network.specs.Sound.{Counted, Fit, Ascending, InRange, Tested, Cut, Leaving};
 use crate::fault::ArcRange;
 use crate::fault::NetworkFault;
 use model::Arc;
@@ -38,7 +39,7 @@ impl<'a> Network<'a> {
 
     /// Becomes the network of these stops and arcs, or refuses at the first fault and stays as it was.
     pub fn lay(&mut self, stops: u32, arcs: &'a [Arc]) -> Result<(), NetworkFault>
-        ensures answer { λ r. ⌜ r ≡ verdict (faultOf stops (now (arcs .entry))) ⌝ }
+        ensures answer { λ r. ⌜ Tested r stops (now (arcs .entry)) ⌝ }
         ensures laid { λ r. ⌜ elim r [ Ok _ ↦ (now (self .exit) .stops ≡ stops) × (now (now (self .exit) .arcs) ≡ now (arcs .entry)) | Err _ ↦ now (self .exit) ≡ now (self .entry) ] ⌝ }
     {
         tested(stops, arcs)?;
@@ -96,7 +97,7 @@ impl<'a> Network<'a> {
 
 /// Whether these stops and arcs are a network, and else the first fault.
 fn tested(stops: u32, arcs: &[Arc]) -> Result<(), NetworkFault>
-    ensures { λ r. ⌜ r ≡ verdict (faultOf stops (now (arcs .entry))) ⌝ }
+    ensures { λ r. ⌜ Tested r stops (now (arcs .entry)) ⌝ }
 {
     if stops < 1 || stops > MOST_STOPS {
         return Err(NetworkFault::StopCount);
@@ -119,7 +120,7 @@ fn tested(stops: u32, arcs: &[Arc]) -> Result<(), NetworkFault>
 
 /// Whether both ends of an arc are stops, and its label is a label.
 fn within(arc: Arc, stops: u32) -> bool
-    ensures { λ r. ⌜ r ≡ inRange stops arc ⌝ }
+    ensures { λ r. ⌜ Decides r (InRange stops arc) ⌝ }
 {
     arc.tail < stops && arc.head < stops && arc.label < LABELS
 }

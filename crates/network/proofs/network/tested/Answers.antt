@@ -1,24 +1,19 @@
-use mathlib.Core.Path.{_≡_, sym, ap, _∙_}
-use mathlib.Core.Bool.{true, false}
-use Prim.Native.Nat.{_≤_}
 use native.Mathlib.Omega.{arith}
-use lib.ListN.{length}
-use Rattle.std.proofs.shelf.Lists.{at-drop-all}
-use Rattle.network.specs.Sound.{faultFrom, verdict}
-use Rattle.network.proofs.Sounds.{counts-pass, field-fault, tail-fault, no-fault}
+use Rattle.std.proofs.shelf.Ways.{not-from-decides}
+use Rattle.network.proofs.Passing.{none, passed-none, passed-more, passed-all, field-fault, tail-fault}
 use Rattle.network.proofs.network.tested.Needs as need
 
+pub loop-i-holds : need.loop-i-holds
+loop-i-holds c = passed-none _ _
+
 pub returns-then-not-within : need.returns-then-not-within
-returns-then-not-within c =
-    sym (ap verdict (counts-pass (c .args .stops) (c .args .arcs .now) (omega arith, omega arith, omega arith) ∙ c .loop-i .inv ∙ field-fault _ _ _ _ _ (c .loop-i-test .taken) (sym (c .within .ensures) ∙ c .if-not-within .taken)))
+returns-then-not-within c = field-fault (c .args .stops) (c .args .arcs .now) _ _ none (c .loop-i-test .taken) (c .loop-i .inv) ((omega arith, omega arith), omega arith) (not-from-decides _ (c .within .ensures) (c .if-not-within .taken))
 
 pub returns-then-arc-low : need.returns-then-arc-low
-returns-then-arc-low c =
-    sym (ap verdict (counts-pass (c .args .stops) (c .args .arcs .now) (omega arith, omega arith, omega arith) ∙ c .loop-i .inv ∙ tail-fault _ _ _ _ _ (c .loop-i-test .taken) (sym (c .if-not-within .ensures tt)) (c .if-arc-low .taken)))
+returns-then-arc-low c = tail-fault _ _ _ _ _ (c .loop-i-test .taken) (c .loop-i .inv) ((omega arith, omega arith), omega arith) (c .within .ensures .0 (c .if-not-within .left)) (c .if-arc-low .taken)
 
 pub loop-i-again : need.loop-i-again
-loop-i-again c = c .loop-i .inv ∙ no-fault _ _ _ _ _ (c .loop-i-test .taken) (sym (c .if-not-within .ensures tt)) (c .if-arc-low .left)
+loop-i-again c = passed-more _ _ _ _ _ (c .loop-i-test .taken) (c .loop-i .inv) (c .within .ensures .0 (c .if-not-within .left)) (c .if-arc-low .left)
 
 pub returns : need.returns
-returns c =
-    sym (ap verdict (counts-pass (c .args .stops) (c .args .arcs .now) (omega arith, omega arith, omega arith) ∙ c .loop-i .inv ∙ at-drop-all (faultFrom (c .args .stops) (c .loop-i .i) (c .loop-i .low)) (c .args .arcs .now) (c .loop-i .i) (c .loop-i-test .left)))
+returns c = passed-all _ _ _ _ ((omega arith, omega arith), omega arith) (c .loop-i-test .left) (c .loop-i .inv)

@@ -1,7 +1,5 @@
-use mathlib.Core.Path.{_≡_}
-use lib.ListN.{drop}
-use Rattle.network.specs.Sound.{faultFrom}
+use Rattle.network.proofs.Passing.{Passed}
 use Rattle.network.proofs.network.tested.Given as given
 
 abbrev pub Inv-loop-i : given.InvT-loop-i
-Inv-loop-i l = faultFrom (l .stops) 0 0 (l .arcs) ≡ faultFrom (l .stops) (l .i) (l .low) (drop (l .i) (l .arcs))
+Inv-loop-i l = Passed (l .stops) (l .arcs) (l .i) (l .low)
