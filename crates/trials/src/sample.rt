@@ -121,6 +121,25 @@ impl Sample {
         })
     }
 
+    /// How many places there are: the rows of a label table.
+    pub fn places(&self) -> usize {
+        self.rule
+            .whole
+            .ends
+            .len()
+            .saturating_mul(self.stops as usize)
+    }
+
+    /// How many slots a queue needs.
+    pub fn entries(&self) -> usize {
+        self.rule
+            .whole
+            .ends
+            .len()
+            .saturating_mul(self.arcs.len())
+            .saturating_add(1)
+    }
+
     /// The sample as the lister takes it.
     pub fn world(&self) -> World<'_> {
         World {

@@ -1,4 +1,5 @@
 //! Counts of what was seen.
+use lister::Journey;
 use std::io;
 
 /// How many numbers a refusal can have, and how many legs are counted apart.
@@ -23,6 +24,16 @@ pub fn count(n: &mut u32) {
     *n = n.saturating_add(1);
 }
 
+/// Whether a leg takes no second.
+fn has_instant_leg(journey: &Journey) -> bool {
+    for leg in journey.legs.iter() {
+        if leg.entered == leg.arrived {
+            return true;
+        }
+    }
+    false
+}
+
 impl Tally {
     /// Nothing seen.
     pub fn new() -> Tally {
@@ -44,10 +55,16 @@ impl Tally {
         }
     }
 
-    /// One more journey of so many legs.
-    pub fn journey(&mut self, legs: usize) {
+    /// One more journey.
+    pub fn journey(&mut self, journey: &Journey) {
         count(&mut self.answered);
-        if let Some(n) = self.legs.get_mut(legs) {
+        if journey.ties > 0 {
+            count(&mut self.ties);
+        }
+        if has_instant_leg(journey) {
+            count(&mut self.instant);
+        }
+        if let Some(n) = self.legs.get_mut(journey.legs.len()) {
             count(n);
         }
     }
@@ -60,7 +77,10 @@ impl Tally {
         let ties = self.ties;
         let instant = self.instant;
         println!(rt, "networks {networks}, of them by the horizon {late}")?;
-        println!(rt, "answered {answered}, of them with ties {ties}, with legs of no second {instant}")?;
+        println!(
+            rt,
+            "answered {answered}, of them with ties {ties}, with legs of no second {instant}"
+        )?;
         for (legs, n) in self.legs.iter().enumerate() {
             if *n > 0 {
                 println!(rt, "journeys of {legs} legs: {n}")?;
