@@ -1,3 +1,6 @@
 pub mod Laws
 pub mod Joined
 pub mod Uses
+pub mod Walks
+pub mod Timetables
+pub mod Roads

@@ -5,3 +5,4 @@ pub mod Rules
 pub mod Trips
 pub mod Suits
 pub mod Asking
+pub mod Claims

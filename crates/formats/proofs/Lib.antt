@@ -1,0 +1,4 @@
+pub mod BothWays
+pub mod NetworkFile
+pub mod RuleFile
+pub mod Examples

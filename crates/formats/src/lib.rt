@@ -1,0 +1,6 @@
+//! The formats of the network file and of the rule file, and what holds of all such files.
+mod theorems;
+
+pub use theorems::network_files_go_both_ways;
+pub use theorems::numbers_of_a_file;
+pub use theorems::rule_files_go_both_ways;

@@ -1,0 +1,6 @@
+pub mod Options
+pub mod Worlds
+pub mod Unique
+pub mod Waiting
+pub mod Halves
+pub mod Asks
