@@ -12,13 +12,14 @@ use Rattle.std.specs.declared.option.Option.{Option}
 use Rattle.std.specs.declared.option.Option.the-variants.{Some, None}
 use Rattle.std.proofs.shelf.Tests.{le-leb, lt-leb, cases-lt}
 use Rattle.std.proofs.shelf.Elements.{all-from-getD}
-use Rattle.std.proofs.shelf.Lists.{map-more}
+use Rattle.std.proofs.shelf.Lists.{map-more, getD-default}
+use Rattle.std.proofs.shelf.Sorted.{rises-from-neighbours}
 use Rattle.model.specs.Books.{LawfulBook, Fair, Within, NoLater}
 use Rattle.model.specs.Clock.{horizon}
 use Rattle.model.specs.declared.tables.Connection.{Connection}
 use Rattle.model.specs.declared.tables.Span.{Span}
 use Rattle.meanings.specs.Spans.{most-services, service-rows, Each}
-use Rattle.meanings.specs.Timetables.{sooner, least, caught, arrivals, earliest, no-connection, timetabled, IsLeast, Forward, Timely}
+use Rattle.meanings.specs.Timetables.{sooner, least, caught, arrivals, earliest, no-connection, timetabled, IsLeast, Rising, Forward, Timely}
 use Rattle.meanings.proofs.Laws.{listed-lawful}
 
 -- no earlier than it departs, a connection arrives by the horizon
@@ -107,6 +108,22 @@ caught-from (c ∷ cs) t zero before after inside =
 caught-from (c ∷ cs) t (suc i) before after inside =
     let h : c .departure < t = before 0 (omega arith) in
     rw (lt-leb t (c .departure) h) (caught-from cs t i (λ k l. before (suc k) (omega arith)) (λ k l m. after (suc k) (omega arith) (omega arith)) (omega arith))
+
+-- departures that do not fall from one connection to the next do not fall at all
+rises : (cs : List Connection) → Rising cs → (i j : ℕ) → i ≤ j → j < length cs → getD cs i no-connection .departure ≤ getD cs j no-connection .departure
+rises cs up i j le lt = rises-from-neighbours (λ (c : Connection). c .departure) cs by-any i j no-connection le lt
+  where
+    by-any : (k : ℕ) (d : Connection) → k + 1 < length cs → getD cs k d .departure ≤ getD cs (k + 1) d .departure
+    by-any k d h =
+        omega (arith, up k h, ap (λ (c : Connection). c .departure) (getD-default cs k d no-connection (omega arith)), ap (λ (c : Connection). c .departure) (getD-default cs (k + 1) d no-connection h))
+
+-- what one look at the middle of a list tells
+module _ (cs : List Connection) (up : Rising cs) (t m : ℕ) (inside : m < length cs) where
+  pub missed-to : getD cs m no-connection .departure < t → (k : ℕ) → k < m + 1 → getD cs k no-connection .departure < t
+  missed-to h k l = omega (arith, rises cs up k m (omega arith) inside)
+
+  pub caught-on : t ≤ getD cs m no-connection .departure → (k : ℕ) → m ≤ k → k < length cs → t ≤ getD cs k no-connection .departure
+  caught-on h k le l = omega (arith, rises cs up m k le l)
 
 -- what is caught first is the least of all
 sooner-least : (c : Connection) (cs : List Connection) (t : ℕ) (o : Option ℕ) → t ≤ c .departure → IsLeast cs t o → IsLeast (c ∷ cs) t (sooner (c .arrival) o)
