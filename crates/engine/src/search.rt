@@ -51,3 +51,32 @@ fn turn<B: Book, R: Rule>(
     let range = network.leaving(from.stop);
     relax(network, range.first, range.end, book, rule, labels, queue, from, settled);
 }
+
+/// Settles places from the stop `start` in state 0 on, until a place of the target in an end state is next: gives its state and label.
+fn explore<B: Book, R: Rule>(
+    network: Network<'_>,
+    book: &B,
+    rule: &R,
+    labels: &mut [Option<Label>],
+    slots: &mut [Entry],
+    start: u32,
+    target: u32,
+    second: u32,
+) -> Option<(u32, Label)>
+    requires size { ⌜ length (now labels) ≡ network .stops * R·Rule .automaton (now rule) .states ⌝ ∗ ⌜ 1 + length (now (network .arcs)) * R·Rule .automaton (now rule) .states ≤ length (now slots) ⌝ }
+    requires start { ⌜ start < network .stops ⌝ }
+    ensures { λ r. ⌜ Ended (world (now (network .entry .arcs)) (B·Book .answer (now (book .entry))) (R·Rule .automaton (now (rule .entry)))) (place start 0) second target (view (R·Rule .automaton (now (rule .entry)) .states) (now (labels .exit))) r ⌝ }
+{
+    let states = rule.states();
+    let mut queue = Queue::new(slots);
+    begin(labels, &mut queue, states, start, second);
+    while let Some((number, label)) = next(labels, &mut queue) {
+        let stop = number / states;
+        let state = number % states;
+        if stop == target && rule.ends(state) {
+            return Some((state, label));
+        }
+        turn(network, book, rule, labels, &mut queue, number, label);
+    }
+    None
+}
