@@ -1,5 +1,7 @@
 //! The search itself.
 ghost use mathlib.Core.Path.{_≡_};
+ghost use mathlib.Core.Bool.{_&&_};
+ghost use lib.Dec.{eqb};
 ghost use Prim.Native.Nat.{ℕ, _+_, _*_, _^_, _<_, _≤_};
 ghost use lib.ListN.{length, set};
 ghost use Rattle.std.specs.declared.option.Option.the-variants.{Some};
@@ -52,6 +54,13 @@ fn turn<B: Book, R: Rule>(
     relax(network, range.first, range.end, book, rule, labels, queue, from, settled);
 }
 
+/// Whether the place at a stop in a state is one of the target's in an end state.
+fn ends<R: Rule>(rule: &R, stop: u32, state: u32, target: u32) -> bool
+    ensures { λ r. ⌜ r ≡ (eqb stop target && R·Rule .automaton (now (rule .entry)) .ends state) ⌝ }
+{
+    stop == target && rule.ends(state)
+}
+
 /// Settles places from the stop `start` in state 0 on, until a place of the target in an end state is next: gives its state and label.
 fn explore<B: Book, R: Rule>(
     network: Network<'_>,
@@ -71,9 +80,8 @@ fn explore<B: Book, R: Rule>(
     let mut queue = Queue::new(slots);
     begin(labels, &mut queue, states, start, second);
     while let Some((number, label)) = next(labels, &mut queue) {
-        let stop = number / states;
         let state = number % states;
-        if stop == target && rule.ends(state) {
+        if ends(rule, number / states, state, target) {
             return Some((state, label));
         }
         turn(network, book, rule, labels, &mut queue, number, label);
