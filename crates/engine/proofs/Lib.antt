@@ -1,1 +1,2 @@
 pub mod Agendas
+pub mod Grounds

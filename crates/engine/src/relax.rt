@@ -17,7 +17,6 @@ use labels::Label;
 use labels::Offer;
 use model::Arc;
 use model::Place;
-use network::ArcRange;
 use network::Network;
 use queue::Queue;
 use rules::Rule;
@@ -107,10 +106,11 @@ fn accept(labels: &mut [Option<Label>], queue: &mut Queue<'_, Entry>, states: u3
     }
 }
 
-/// Relaxes the arcs out of the place `from`, those of the range; its label is `label`.
+/// Relaxes the arcs out of the place `from`, those from `low` up to `high`; its label is `label`.
 pub(crate) fn relax<B: Book, R: Rule>(
     network: Network<'_>,
-    range: ArcRange,
+    low: usize,
+    high: usize,
     book: &B,
     rule: &R,
     labels: &mut [Option<Label>],
@@ -120,15 +120,16 @@ pub(crate) fn relax<B: Book, R: Rule>(
 )
     requires size { ⌜ length (now labels) ≡ network .stops * R·Rule .automaton (now rule) .states ⌝ ∗ ⌜ label .legs < 2 ^ 31 ⌝ }
     requires agenda { ⌜ Agenda (now labels) (now queue) ⌝ }
-    requires range { ⌜ Leaving (now (network .arcs)) (from .stop) range ⌝ }
-    requires room { ⌜ length (contents (now queue)) + (range .end - range .first) ≤ capacity (now queue) ⌝ }
+    requires range { ⌜ Leaving (now (network .arcs)) (from .stop) (record { first = low; «end» = high }) ⌝ }
+    requires room { ⌜ length (contents (now queue)) + (high - low) ≤ capacity (now queue) ⌝ }
+    ensures count { λ _. ⌜ length (contents (now (queue .exit))) ≤ length (contents (now (queue .entry))) + (high - low) ⌝ }
     ensures table { λ _. ⌜ view (R·Rule .automaton (now (rule .entry)) .states) (now (labels .exit)) ≡ relax-below (world (now (network .entry .arcs)) (B·Book .answer (now (book .entry))) (R·Rule .automaton (now (rule .entry)))) from label (length (now (network .entry .arcs))) (view (R·Rule .automaton (now (rule .entry)) .states) (now (labels .entry))) ⌝ }
     ensures agenda { λ _. ⌜ Agenda (now (labels .exit)) (now (queue .exit)) ⌝ }
     ensures room { λ _. ⌜ capacity (now (queue .exit)) ≡ capacity (now (queue .entry)) ⌝ }
 {
     let states = rule.states();
     let arcs = network.arcs();
-    for i in range.first..range.end {
+    for i in low..high {
         if let Some(made) = offer(arcs, book, rule, from, label, i) {
             accept(labels, queue, states, made);
         }
