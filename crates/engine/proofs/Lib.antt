@@ -1,2 +1,3 @@
 pub mod Agendas
 pub mod Grounds
+pub mod Unserved

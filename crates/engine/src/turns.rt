@@ -9,15 +9,18 @@ ghost use Rattle.labels.specs.Table.{settle, turn as turn-of};
 ghost use Rattle.model.specs.Trips.{world, place};
 ghost use Rattle.queue.specs.Contents.{contents, capacity};
 ghost use Rattle.labels.specs.Rows.{view, place-of, relaxed-count, Waits};
-ghost use Rattle.engine.specs.Agenda.{Agenda, Ended};
+ghost use Rattle.engine.specs.Agenda.{Agenda, Ended, Searched};
 use crate::begin::begin;
 use crate::entry::Entry;
 use crate::entry::EntryRanked;
 use crate::next::next;
+use crate::refusal::refusal;
 use crate::relax::relax;
 use book::Book;
 use labels::Label;
+use model::Enquiry;
 use model::Place;
+use model::Refusal;
 use network::Network;
 use queue::Queue;
 use rules::Rule;
@@ -87,4 +90,32 @@ fn explore<B: Book, R: Rule>(
         turn(network, book, rule, labels, &mut queue, number, label);
     }
     None
+}
+
+/// Searches from the enquiry's start for the place of its target that answers it, and gives that place's state and label.
+pub fn search<B: Book, R: Rule>(
+    network: Network<'_>,
+    book: &B,
+    rule: &R,
+    enquiry: Enquiry,
+    labels: &mut [Option<Label>],
+    slots: &mut [Entry],
+) -> Result<Option<(u32, Label)>, Refusal>
+    ensures { λ r. ⌜ Searched (network .entry .stops) (B·Book .services (now (book .entry))) (world (now (network .entry .arcs)) (B·Book .answer (now (book .entry))) (R·Rule .automaton (now (rule .entry)))) enquiry (now (labels .entry)) (now (labels .exit)) (now (slots .entry)) (now (slots .exit)) r ⌝ }
+{
+    if let Some(refused) = refusal(network, book, rule, enquiry, labels.len(), slots.len()) {
+        return Err(refused);
+    }
+    let rows = network.stops() as usize * rule.states() as usize;
+    let found = explore(
+        network,
+        book,
+        rule,
+        &mut labels[..rows],
+        slots,
+        enquiry.start,
+        enquiry.target,
+        enquiry.second,
+    );
+    Ok(found)
 }

@@ -17,7 +17,7 @@ use Rattle.labels.specs.Rows.{Rows, view, place-of, settled-count, relaxed-coun
 use Rattle.labels.proofs.Searching.{begun-legs, begun-unmet, legs-small, settled-most, finished-of, next-search, next-legs, one-more-settled, relaxed-after, unmet-still, least-row, tied-row}
 use Rattle.queue.specs.Contents.{contents, capacity}
 use Rattle.engine.proofs.Grounds.{rows-few}
-use Rattle.engine.proofs.search.explore.Needs as need
+use Rattle.engine.proofs.turns.explore.Needs as need
 
 pub begin-requires : need.begin-requires
 begin-requires g c κs =

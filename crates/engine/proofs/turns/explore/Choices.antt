@@ -7,7 +7,7 @@ use Rattle.labels.specs.Table.{Search, Unmet}
 use Rattle.labels.specs.Rows.{view, settled-count, relaxed-count, LegsBound}
 use Rattle.queue.specs.Contents.{contents, capacity}
 use Rattle.engine.specs.Agenda.{Agenda}
-use Rattle.engine.proofs.search.explore.Given as given
+use Rattle.engine.proofs.turns.explore.Given as given
 
 abbrev pub Inv-loop-number : given.InvT-loop-number
 Inv-loop-number g l =

@@ -10,7 +10,7 @@ use Rattle.labels.specs.Rows.{place-of, view, relaxed-count}
 use Rattle.labels.proofs.Searching.{row-below, view-settled, relaxed-most}
 use Rattle.queue.specs.Contents.{contents, capacity}
 use Rattle.engine.proofs.Grounds.{range-room}
-use Rattle.engine.proofs.search.turn.Needs as need
+use Rattle.engine.proofs.turns.turn.Needs as need
 
 pub index-labels-number : need.index-labels-number
 index-labels-number g c = row-below (c .args .labels .now) (c .args .number) (c .args .label) (c .pre .size .1 .0 .0)
