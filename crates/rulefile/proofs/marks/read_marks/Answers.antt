@@ -15,7 +15,7 @@ loop-i-holds c = (c .told-ends, reading-start _ (omega arith))
 pub returns-in-Break-ends : need.returns-in-Break-ends
 returns-in-Break-ends c =
     let p = err-from-errBy (c .from-residual-in-Break-ends .result) (c .from-residual-in-Break-ends .ensures .1) in
-    rw (p .1, p .2) (reading-fault (ranged 1 16 RuleField) (c .number-in .ensures) (c .in-Continue-states .was tt) (c .loop-i .inv .1) (omega arith) (c .read-mark .ensures) (c .in-Break-ends .was tt))
+    rw (p .1, p .2) (record { says = reading-fault (ranged 1 16 RuleField) (c .number-in .ensures) (c .in-Continue-states .was tt) (c .loop-i .inv .1) (omega arith) (c .read-mark .ensures) (c .in-Break-ends .was tt); small = tt })
 
 pub loop-i-again : need.loop-i-again
 loop-i-again c =
@@ -24,5 +24,8 @@ loop-i-again c =
 
 pub returns : need.returns
 returns c =
-    let all : c .loop-i .i ≡ c .in-Continue-states .field-0 = omega arith in
-    reading-end (ranged 1 16 RuleField) (c .number-in .ensures) (c .in-Continue-states .was tt) _ (c .loop-i .inv .1) (omega arith) (ap (λ n. take n (c .loop-i .ends)) all)
+    let all : c .loop-i .i ≡ c .in-Continue-states .states = omega arith in
+    record {
+      says = reading-end (ranged 1 16 RuleField) (c .number-in .ensures) (c .in-Continue-states .was tt) _ (c .loop-i .inv .1) (omega arith) (ap (λ n. take n (c .loop-i .ends)) all);
+      small = in-range 1 16 RuleField (lit< tt) (c .number-in .ensures) (c .in-Continue-states .was tt);
+    }
