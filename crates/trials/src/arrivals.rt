@@ -5,6 +5,7 @@ use model::Connection;
 use model::HORIZON;
 use model::Point;
 use model::Span;
+use notices::Notice;
 use std::alloc::AllocError;
 use std::alloc::Global;
 
@@ -95,11 +96,57 @@ fn since(tables: &Tables, service: usize, base: u32, second: u32) -> Option<u32>
     arrival.checked_sub(base)
 }
 
-/// The rows of all services.
-pub fn arrivals(tables: &Tables, base: u32, heap: Global) -> Result<Vec<Row>, AllocError> {
+/// When a service under a notice arrives: whoever comes while it is shut goes on when it opens, and all arrive late.
+fn under(row: &Row, notice: Notice, base: u32, second: u32) -> Option<u32> {
+    let coming = base.checked_add(second)?;
+    let going = if notice.shut <= coming && coming < notice.until {
+        notice.until
+    } else {
+        coming
+    };
+    let arrival = (*row.get(going.checked_sub(base)? as usize)?)?;
+    let late = arrival.checked_add(notice.lateness)?;
+    if base.checked_add(late)? > HORIZON {
+        return None;
+    }
+    Some(late)
+}
+
+/// The row of a service under a notice.
+fn noticed(row: &Row, notice: Notice, base: u32) -> Row {
+    let mut late = [None; SECONDS];
+    for second in 0..SECONDS {
+        late[second] = under(row, notice, base, second as u32);
+    }
+    late
+}
+
+/// The last notice of a service.
+fn notice_of(notices: &[Notice], service: usize) -> Option<Notice> {
+    for notice in notices.iter().rev() {
+        if notice.service as usize == service {
+            return Some(*notice);
+        }
+    }
+    None
+}
+
+/// The rows of all services, under the last notice of each.
+pub fn arrivals(
+    tables: &Tables,
+    notices: &[Notice],
+    base: u32,
+    heap: Global,
+) -> Result<Vec<Row>, AllocError> {
     let mut all = Vec::new(heap);
     for service in 0..tables.services() {
-        all.push(row(tables, service, base))?;
+        let row = row(tables, service, base);
+        all.push(
+            match notice_of(notices, service) {
+                Some(notice) => noticed(&row, notice, base),
+                None => row,
+            },
+        )?;
     }
     Ok(all)
 }

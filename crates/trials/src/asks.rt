@@ -20,7 +20,7 @@ use std::alloc::Global;
 use std::error::AnyError;
 
 /// The latest second of an ask, counted from the base.
-const LATEST: u32 = 9;
+const LATEST: u32 = 6;
 
 /// A journey's legs by the clock.
 fn clocked(journey: &Journey, base: u32, heap: Global) -> Result<Vec<Leg>, AllocError> {

@@ -33,7 +33,7 @@ impl Automaton {
 fn random_row(dice: &mut Dice, states: u32) -> [Option<u32>; 6] {
     let mut row = [None; 6];
     for label in 0..6 {
-        if !dice.once_in(4) {
+        if !dice.once_in(6) {
             row[label] = Some(dice.upto(states.saturating_sub(1)));
         }
     }
@@ -46,7 +46,7 @@ pub fn random(dice: &mut Dice, states: u32, heap: Global) -> Result<Automaton, A
     let mut ends = Vec::new(heap);
     for _ in 0..states {
         next.push(random_row(dice, states))?;
-        ends.push(!dice.once_in(3))?;
+        ends.push(dice.once_in(2))?;
     }
     Ok(Automaton { next, ends })
 }

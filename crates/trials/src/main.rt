@@ -4,6 +4,7 @@ mod asks;
 mod automata;
 mod desk;
 mod dice;
+mod faults;
 mod sample;
 mod show;
 mod tables;

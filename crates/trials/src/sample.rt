@@ -8,6 +8,7 @@ use crate::tables::Tables;
 use lister::World;
 use model::Arc;
 use model::HORIZON;
+use notices::Notice;
 use std::alloc::AllocError;
 use std::alloc::Global;
 
@@ -38,6 +39,8 @@ pub struct Sample {
     pub stops: u32,
     pub arcs: Vec<Arc>,
     pub tables: Tables,
+    /// In the order in which they are put; a later one of a service stands for an earlier one.
+    pub notices: Vec<Notice>,
     pub rows: Vec<Row>,
     pub rule: RuleSample,
 }
@@ -81,7 +84,7 @@ fn random_arc(dice: &mut Dice, tail: u32, stops: u32, services: u32) -> Arc {
     }
 }
 
-/// At most two arcs from each stop; some stops are dead ends.
+/// At most three arcs from each stop; some stops are dead ends.
 fn random_arcs(
     dice: &mut Dice,
     stops: u32,
@@ -90,11 +93,36 @@ fn random_arcs(
 ) -> Result<Vec<Arc>, AllocError> {
     let mut arcs = Vec::new(heap);
     for tail in 0..stops {
-        for _ in 0..dice.upto(2) {
+        for _ in 0..dice.upto(3) {
             arcs.push(random_arc(dice, tail, stops, services))?;
         }
     }
     Ok(arcs)
+}
+
+/// A short shutting and a small lateness of a service.
+fn random_notice(dice: &mut Dice, base: u32, services: u32) -> Notice {
+    let shut = base.saturating_add(dice.upto(6)).min(HORIZON);
+    Notice {
+        service: dice.upto(services.saturating_sub(1)),
+        lateness: dice.upto(2),
+        shut,
+        until: shut.saturating_add(dice.upto(4)).min(HORIZON),
+    }
+}
+
+/// No notice, or up to three.
+fn random_notices(
+    dice: &mut Dice,
+    base: u32,
+    services: u32,
+    heap: Global,
+) -> Result<Vec<Notice>, AllocError> {
+    let mut notices = Vec::new(heap);
+    for _ in 0..dice.upto(3) {
+        notices.push(random_notice(dice, base, services))?;
+    }
+    Ok(notices)
 }
 
 impl Sample {
@@ -109,13 +137,15 @@ impl Sample {
         let tables = Tables::random(dice, base, heap)?;
         let services = u32::try_from(tables.services()).unwrap_or(0);
         let arcs = random_arcs(dice, stops, services, heap)?;
-        let rows = arrivals(&tables, base, heap)?;
+        let notices = random_notices(dice, base, services, heap)?;
+        let rows = arrivals(&tables, notices.as_slice(), base, heap)?;
         let rule = RuleSample::random(dice, heap)?;
         Ok(Sample {
             base,
             stops,
             arcs,
             tables,
+            notices,
             rows,
             rule,
         })
@@ -138,6 +168,24 @@ impl Sample {
             .len()
             .saturating_mul(self.arcs.len())
             .saturating_add(1)
+    }
+
+    /// The arcs; where it is asked for, one of them has a service that no book has.
+    pub fn arcs_for(
+        &self,
+        misnumbered: bool,
+        dice: &mut Dice,
+        heap: Global,
+    ) -> Result<Vec<Arc>, AllocError> {
+        let mut arcs = Vec::from_slice(heap, self.arcs.as_slice())?;
+        let last = u32::try_from(arcs.len()).unwrap_or(0).saturating_sub(1);
+        let services = u32::try_from(self.tables.services()).unwrap_or(0);
+        if misnumbered {
+            if let Some(arc) = arcs.get_mut(dice.upto(last) as usize) {
+                arc.service = services.saturating_add(dice.upto(1));
+            }
+        }
+        Ok(arcs)
     }
 
     /// The sample as the lister takes it.

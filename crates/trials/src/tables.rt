@@ -33,7 +33,7 @@ impl Tables {
             roads: Vec::new(heap),
         };
         for _ in 0..dice.upto(1) + 1 {
-            tables.walks.push(dice.upto(3))?;
+            tables.walks.push(dice.upto(2))?;
         }
         for _ in 0..dice.upto(2) {
             tables.timetable(dice, base)?;
@@ -52,13 +52,13 @@ impl Tables {
             .saturating_add(self.roads.len())
     }
 
-    /// One timetable more, of one to four connections.
+    /// One timetable more, of two to five connections.
     fn timetable(&mut self, dice: &mut Dice, base: u32) -> Result<(), AllocError> {
         let start = self.connections.len();
         let mut departure = base;
-        for _ in 0..dice.upto(3) + 1 {
+        for _ in 0..dice.upto(3) + 2 {
             departure = after(departure, dice.upto(3));
-            let arrival = after(departure, dice.upto(3));
+            let arrival = after(departure, dice.upto(2));
             self.connections.push(Connection { departure, arrival })?;
         }
         let len = self.connections.len().saturating_sub(start);
@@ -72,7 +72,7 @@ impl Tables {
         let mut second = after(base, dice.upto(2));
         let mut arrival = second;
         for _ in 0..dice.upto(2) + 1 {
-            arrival = arrival.max(after(second, dice.upto(4)));
+            arrival = arrival.max(after(second, dice.upto(3)));
             let travel = arrival.saturating_sub(second);
             self.points.push(Point { second, travel })?;
             second = second.saturating_add(dice.upto(2) + 1);

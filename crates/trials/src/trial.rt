@@ -1,6 +1,7 @@
 //! One network with its book and its rule.
 use crate::asks::asks;
 use crate::dice::Dice;
+use crate::faults::faults;
 use crate::sample::Kind;
 use crate::sample::Sample;
 use crate::tally::Tally;
@@ -15,10 +16,14 @@ use books::TimetablesBook;
 use books::Walks;
 use books::WalksBook;
 use network::Network;
+use notices::NoticeBook;
+use notices::NoticeBookBook;
+use notices::NoticeTable;
 use rules::BoardingRule;
 use rules::BoardingRuleRule;
 use rules::Pair;
 use rules::PairRule;
+use rules::Rule;
 use rules::TableRule;
 use rules::TableRuleRule;
 use std::error::AnyError;
@@ -58,7 +63,15 @@ pub fn trial<'s>(
         first: walks,
         second: timed,
     };
-    by_rule(rt, network, &book, sample, dice, tally)
+    let mut noticed = NoticeBook::new(book);
+    let mut table = NoticeTable::new();
+    for notice in sample.notices.iter() {
+        if table.put(*notice).is_err() {
+            return Err("a notice was refused".into());
+        }
+    }
+    noticed.stand(table);
+    by_rule(rt, network, &noticed, sample, dice, tally)
 }
 
 /// Makes the rule, and asks.
@@ -80,9 +93,9 @@ fn by_rule<B: Book>(
         return Err("a rule was refused".into());
     };
     match sample.rule.kind {
-        Kind::Table => asks(rt, network, book, &table, sample, dice, tally),
-        Kind::Boarding => asks(rt, network, book, &boarding, sample, dice, tally),
-        Kind::Pair => asks(
+        Kind::Table => tried(rt, network, book, &table, sample, dice, tally),
+        Kind::Boarding => tried(rt, network, book, &boarding, sample, dice, tally),
+        Kind::Pair => tried(
             rt,
             network,
             book,
@@ -92,4 +105,18 @@ fn by_rule<B: Book>(
             tally,
         ),
     }
+}
+
+/// Asks without and with faults.
+fn tried<B: Book, R: Rule>(
+    rt: &LibcRuntime,
+    network: Network<'_>,
+    book: &B,
+    rule: &R,
+    sample: &Sample,
+    dice: &mut Dice,
+    tally: &mut Tally,
+) -> Result<(), AnyError> {
+    asks(rt, network, book, rule, sample, dice, tally)?;
+    faults(rt, book, rule, sample, dice, tally)
 }
