@@ -17,7 +17,6 @@ use books::Walks;
 use books::WalksBook;
 use enquiries::enquiry_at;
 use files::Counts;
-use files::load;
 use lines::JourneyLine;
 use lines::JourneyLineDisplay;
 use lines::LegLine;
@@ -26,6 +25,7 @@ use lines::RefusedLine;
 use lines::RefusedLineDisplay;
 use model::Enquiry;
 use model::Leg;
+use model::Refusal;
 use network::Network;
 use rulefile::load_rule;
 use rules::Rule;
@@ -33,6 +33,7 @@ use rules::TableRule;
 use rules::TableRuleRule;
 use search::ask;
 use std::io;
+use wire::Fault;
 
 /// The services of a file: its walks, then its timetables, then its roads.
 type FileBook<'a> = Bank<Bank<Walks<'a>, Timetables<'a>>, Roads<'a>>;
@@ -58,12 +59,12 @@ fn answer<B: Book, R: Rule>(
     enquiry: Enquiry,
     tables: &mut AskTables,
 ) -> io::Result<()> {
-    match ask(network, book, rule, enquiry, &mut tables.labels, &mut tables.slots, &mut tables.slip) {
+    match ask(network, book, rule, enquiry, tables.labels.as_mut_slice(), tables.slots.as_mut_slice(), tables.slip.as_mut_slice()) {
         Ok(found) => {
             let line = JourneyLine { enquiry, found };
             println!(rt, "{line}")?;
             let legs = tables.slip.len().min(found.legs as usize);
-            print_legs(rt, network, &tables.slip[0..legs])
+            print_legs(rt, network, &tables.slip.as_slice()[0..legs])
         }
         Err(refusal) => println!(rt, "{}", RefusedLine(refusal)),
     }
@@ -97,33 +98,52 @@ fn front<T>(table: &[T], rows: usize) -> &[T] {
     &table[0..rows.min(table.len())]
 }
 
-/// The book of the services that a file was loaded with.
-fn file_book<'a>(tables: &'a FileTables, counts: Counts, book: &mut FileBook<'a>) -> Result<(), BookFault> {
-    book.first.first.lay(front(&tables.walks, counts.walks))?;
-    book.first.second.lay(
-        front(&tables.connections, counts.connections),
-        front(&tables.timetables, counts.timetables),
-    )?;
-    book.second.lay(
-        front(&tables.points, counts.points),
-        front(&tables.roads, counts.roads),
-    )
+/// Becomes the book of the services that a file was loaded with.
+fn lay_book<'a>(
+    book: &mut FileBook<'a>,
+    tables: &'a FileTables,
+    counts: Counts,
+) -> Result<(), BookFault> {
+    let walks = front(tables.walks.as_slice(), counts.walks);
+    let connections = front(tables.connections.as_slice(), counts.connections);
+    let timetables = front(tables.timetables.as_slice(), counts.timetables);
+    let points = front(tables.points.as_slice(), counts.points);
+    let roads = front(tables.roads.as_slice(), counts.roads);
+    book.first.first.lay(walks)?;
+    book.first.second.lay(connections, timetables)?;
+    book.second.lay(points, roads)
+}
+
+/// A refusal of what was loaded from a file that ends at a place.
+fn refused_at(refusal: Refusal, at: usize) -> Halt {
+    Halt::Fault(Fault { refusal, at })
 }
 
 /// Reads the files at the front of the input, and answers the enquiries after them.
 pub fn answer_all(rt: &LibcRuntime, input: &[u8]) -> Result<(), Halt> {
     let mut tables = FileTables::new(rt.alloc())?;
-    let loaded = load(
-        input,
-        &mut tables.names,
-        &mut tables.walks,
-        &mut tables.timetables,
-        &mut tables.connections,
-        &mut tables.roads,
-        &mut tables.points,
-        &mut tables.arcs,
-    )?;
-    let mut rule = TableRule::new(1, &[None; 6], &[false])?;
+    let loaded = tables.load(input)?;
+    let mut rule = match TableRule::new(1, &[None; 6], &[false]) {
+        Ok(rule) => rule,
+        Err(fault) => return Err(refused_at(fault.refusal(), loaded.end)),
+    };
     let enquiries = load_rule(input, loaded.end, &mut rule)?;
-    Ok(())
+    let mut book = Bank {
+        first: Bank {
+            first: Walks::empty(),
+            second: Timetables::empty(),
+        },
+        second: Roads::empty(),
+    };
+    if let Err(fault) = lay_book(&mut book, &tables, loaded.counts) {
+        return Err(refused_at(fault.refusal(), loaded.end));
+    }
+    let mut network = Network::empty();
+    if let Err(fault) = network.lay(
+        loaded.counts.stops as u32,
+        front(tables.arcs.as_slice(), loaded.counts.arcs),
+    ) {
+        return Err(refused_at(fault.refusal(), loaded.end));
+    }
+    answer_enquiries(rt, network, &book, &rule, input, enquiries)
 }

@@ -41,7 +41,7 @@ fn main(rt: LibcRuntime) -> io::Result<()> {
             },
         );
     }
-    match answer_all(&rt, &input) {
+    match answer_all(&rt, input.as_slice()) {
         Ok(()) => Ok(()),
         Err(Halt::Fault(fault)) => print_fault(&rt, fault),
         Err(Halt::Io(error)) => Err(error),

@@ -1,13 +1,16 @@
 //! The tables that a run lends: those of the files serve any input of 16,384 bytes.
-use engine::Entry;
-use labels::Label;
+use files::Loaded;
+use files::load;
 use model::Arc;
 use model::Connection;
 use model::Leg;
 use model::Point;
 use model::Span;
+use search::Entry;
+use search::Label;
 use std::alloc::AllocError;
 use std::alloc::Global;
+use wire::Fault;
 
 /// A stop takes two bytes at least, and a network has at most so many.
 const STOPS: usize = 1_024;
@@ -65,6 +68,20 @@ impl FileTables {
             points: vec![in heap; point; ROWS]?,
             arcs: vec![in heap; arc; ARCS]?,
         })
+    }
+
+    /// Fills the tables with the contents of a file.
+    pub fn load(&mut self, file: &[u8]) -> Result<Loaded, Fault> {
+        load(
+            file,
+            self.names.as_mut_slice(),
+            self.walks.as_mut_slice(),
+            self.timetables.as_mut_slice(),
+            self.connections.as_mut_slice(),
+            self.roads.as_mut_slice(),
+            self.points.as_mut_slice(),
+            self.arcs.as_mut_slice(),
+        )
     }
 }
 
