@@ -5,7 +5,7 @@ use mathlib.Core.List.{List, [], _∷_}
 use mathlib.Core.Logic.{⊎-elim}
 use Prim.Native.Nat.{ℕ, _+_, _*_, _/_, _%_, _≤_, _<_}
 use native.Mathlib.Omega.{arith}
-use lib.Dec.{ltb, eqb}
+use lib.Dec.{leb, ltb, eqb}
 use lib.ListN.{length, getD, take, drop, length-take, List·getD-eq-default, drop-of-length-le}
 use lib.Seq.{getD-take}
 use Rattle.std.proofs.shelf.Tests.{cases-lt, eqb-true}
@@ -14,20 +14,25 @@ use Rattle.std.specs.declared.option.Option.{Option}
 use Rattle.std.specs.declared.option.Option.the-variants.{Some, None}
 use Rattle.std.specs.declared.result.Result.{Result}
 use Rattle.std.specs.declared.result.Result.the-variants.{Ok, Err}
-use Rattle.model.specs.declared.refusal.Refusal.the-variants.{FileEndsEarly}
+use Rattle.model.specs.declared.refusal.Refusal.the-variants.{FileEndsEarly, RuleField}
 use Rattle.automata.specs.Tables.{tabled, Closed}
 use Rattle.rules.specs.Faults.{SoundTable}
 use Rattle.formats.specs.declared.rule_step.RuleStep.{RuleStep}
 use Rattle.formats.specs.Contents.{RuleContents}
-use Rattle.formats.specs.RuleFile.{marks, step, stepped, steps, partsOf, contentsOf, FineRule, rule, leadsTo, automatonOf}
-use Rattle.formats.proofs.RuleFile.{marks-lawful, steps-lawful}
+use Rattle.formats.specs.RuleFile.{mark, marks, step, stepped, steps, partsOf, contentsOf, FineRule, rule, leadsTo, automatonOf}
+use Rattle.formats.proofs.RuleFile.{rule-lawful}
 use Rattle.formats.proofs.Chains.{reads-both, reads-both-first, reads-both-second, reads-mapped, reads-mapped-fault}
 use Rattle.wire.specs.declared.fault.Fault.{Fault}
 use Rattle.wire.specs.declared.reader.Reader.{Reader}
-use Rattle.wire.specs.Grammar.{both, FineAll}
+use Rattle.wire.specs.Grammar.{andThen, both, many, FineAll}
+use Rattle.wire.specs.Numbers.{groups, limited, decode}
+use Rattle.wire.specs.Places.{numberAt, placed, wrong}
 use Rattle.wire.specs.Readers.{file, Reads}
 use Rattle.wire.proofs.Steps.{reads-ok, reads-err}
-use Rattle.rulefile.specs.Tables.{entry, Shows}
+use Rattle.rules.specs.declared.table.TableRule.{TableRule}
+use Rattle.rulefile.specs.Loading.{meaning, ending, Becomes, Loads}
+use Rattle.rulefile.specs.declared.load.RuleTables.{RuleTables}
+use Rattle.rulefile.specs.Tables.{entry, Shows, Tables}
 
 -- what the steps of a rule of k states lead from, by and to
 leads-within : (k : ℕ) (before : Option RuleStep) (xs : List RuleStep) → FineAll (step k) stepped before xs → (s x m : ℕ) → leadsTo xs s x ≡ Some m → (s < k) × (x < 6) × (m < k)
@@ -96,3 +101,31 @@ module _ {before middle after : Reader} (k : ℕ) (ends : List Bool) (long : len
 
 pub marks-at-fault : {before after : Reader} (x : Fault) → Reads (marks .read) before after (Err x) → rule .read (file before) (before .at) ≡ Err x
 marks-at-fault x h = reads-err (reads-mapped-fault contentsOf partsOf FineRule (both marks (λ ends. steps (length ends))) (reads-both-first marks (λ ends. steps (length ends)) h refl)) refl
+
+-- a file that begins past the end of the bytes
+pub past-the-end : (bs : List ℕ) (at : ℕ) → length bs < at → rule .read bs at ≡ Err (wrong FileEndsEarly at)
+unfolding numberAt decode groups limited
+past-the-end bs at past =
+    let none : drop at bs ≡ [] = drop-of-length-le bs (omega arith) in
+    ap (λ l. andThen (andThen (andThen (andThen (placed at (decode l)) (λ n q. cond (leb 1 n && leb n 16) (Ok (n, q)) (Err (wrong RuleField at)))) (λ n q. many (λ _. mark) (λ _ _. tt) tt n bs q)) (λ a q. andThen (steps (length a) .read bs q) (λ b r. Ok ((a, b), r)))) (λ a q. Ok (contentsOf a, q))) none
+
+-- what a load says, where the file is read
+pub loads-fault : (bs : List ℕ) (at : ℕ) (before : TableRule) (x : Fault) → rule .read bs at ≡ Err x → Loads bs at before before (Err x)
+loads-fault bs at before x e = record { answer = ap ending (sym e); loaded = subst (λ s. Becomes s before before) (sym e) refl }
+
+pub loads-rule : (bs : List ℕ) (at : ℕ) (before after : TableRule) (contents : RuleContents) (end : ℕ) → rule .read bs at ≡ Ok (contents, end) → meaning after ≡ automatonOf contents → Loads bs at before after (Ok end)
+loads-rule bs at before after contents end e same = record { answer = ap ending (sym e); loaded = subst (λ s. Becomes s before after) (sym e) same }
+
+-- the tables of a file are sound, and they are its rule
+module _ (t : RuleTables) (xs : List RuleStep) (bs : List ℕ) (at end : ℕ) (read : rule .read bs at ≡ Ok (contentsOf (take (t .states) (t .ends), xs), end)) (tables : Tables t xs) where
+  marks-long : length (take (t .states) (t .ends)) ≡ t .states
+  marks-long = length-take (t .states) (t .ends) ∙ omega (arith, tables .few, tables .marks)
+
+  steps-fine : FineAll (step (t .states)) stepped None xs
+  steps-fine = subst (λ k. FineAll (step k) stepped None xs) marks-long (rule-lawful .held (contentsOf (take (t .states) (t .ends), xs)) bs at end read .fine .steps .1)
+
+  pub tables-sound : SoundTable (t .states) (take (t .states * 6) (t .next)) (take (t .states) (t .ends))
+  tables-sound = sound-table (t .states) (tables .few) (t .next) xs (tables .shows) steps-fine (t .states * 6) refl (take (t .states) (t .ends)) marks-long (tables .some)
+
+  pub tables-rule : tabled (t .states) (take (t .states * 6) (t .next)) (take (t .states) (t .ends)) ≡ automatonOf (contentsOf (take (t .states) (t .ends), xs))
+  tables-rule = rule-of-file (t .states) (tables .few) (t .next) xs (tables .shows) steps-fine (t .states * 6) refl (take (t .states) (t .ends)) marks-long

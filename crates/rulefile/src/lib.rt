@@ -3,3 +3,5 @@ mod load;
 mod marks;
 mod step;
 mod steps;
+
+pub use load::load_rule;

@@ -2,7 +2,7 @@
 ghost use mathlib.Core.Path.{_≡_};
 ghost use Prim.Native.Nat.{_≤_};
 ghost use lib.ListN.{length};
-ghost use Rattle.rulefile.specs.Loading.{Made};
+ghost use Rattle.rulefile.specs.Loading.{Loads, Made};
 ghost use Rattle.rulefile.specs.Tables.{Holds};
 use crate::marks::MAX_STATES;
 use crate::marks::read_marks;
@@ -47,4 +47,29 @@ fn table_rule(tables: &RuleTables) -> Result<TableRule, RuleFault>
         &tables.next[..states * LABELS],
         &tables.ends[..states],
     )
+}
+
+/// Makes `rule` the rule of the file that begins at a place of `file`, and answers the place after its last step.
+/// A file at fault leaves the rule as it is.
+pub fn load_rule(file: &[u8], at: usize, rule: &mut TableRule) -> Result<usize, Fault>
+    ensures { λ r. ⌜ Loads (now (file .entry)) at (now (rule .entry)) (now (rule .exit)) r ⌝ }
+{
+    if at > file.len() {
+        return Err(Fault {
+            refusal: Refusal::FileEndsEarly,
+            at,
+        });
+    }
+    let mut reader = Reader::starting(file, at);
+    let tables = read_tables(&mut reader)?;
+    match table_rule(&tables) {
+        Ok(loaded) => {
+            *rule = loaded;
+            Ok(reader.place())
+        }
+        Err(fault) => Err(Fault {
+            refusal: fault.refusal(),
+            at,
+        }),
+    }
 }
