@@ -3,8 +3,11 @@ ghost use mathlib.Core.Path.{_≡_};
 ghost use mathlib.Core.Bool.{true};
 ghost use Prim.Native.Nat.{_<_};
 ghost use Rattle.std.specs.Options.{isSome};
+ghost use Rattle.std.specs.declared.result.Result.the-variants.{Ok};
+ghost use Rattle.wire.specs.Grammar.{andThen};
+ghost use Rattle.formats.specs.NetworkFile.{network};
 ghost use Rattle.records.specs.declared.records.Section.the-variants.{Front, Stops, Walks, Timetables, Connections, Roads, Points, Arcs};
-ghost use Rattle.records.specs.Stream.{told};
+ghost use Rattle.records.specs.Stream.{told, collected, recordsOf};
 ghost use Rattle.records.specs.Records.{rest, handed, follows, goes, size};
 use crate::fields::arc;
 use crate::fields::connection;
@@ -21,6 +24,7 @@ impl<'a> Records<'a> {
     /// The records of a file.
     pub fn new(bytes: &'a [u8]) -> Records<'a>
         ensures all { λ r. ⌜ rest r ≡ told (now (bytes .entry)) ⌝ }
+        ensures reads { λ r. ⌜ collected (rest r) ≡ andThen (network .read (now (bytes .entry)) 0) (λ c q. Ok (recordsOf c, q)) ⌝ }
         ensures front { λ r. ⌜ r .section ≡ Front ⌝ }
     {
         Records {
