@@ -10,10 +10,10 @@ use Rattle.std.specs.declared.option.Option.the-variants.{Some, None}
 use Rattle.model.specs.declared.tables.Point.{Point}
 use Rattle.model.specs.declared.refusal.Refusal.the-variants.{OtherForm, StopCount, NameLength, ServiceField, ArcCount, ArcField, NoSuchService, TailFalls}
 use Rattle.model.specs.Clock.{horizon}
-use Rattle.wire.specs.Grammar.{Format, LawfulFormat, ranged, below, since, both, mapped}
+use Rattle.wire.specs.Grammar.{Format, LawfulFormat, ranged, below, since, both}
 use Rattle.wire.proofs.Laws.{ranged-lawful, below-lawful, since-lawful, exactly-lawful, text-lawful, checked-lawful, both-lawful, mapped-lawful, counted-lawful, plain-lawful}
 use Rattle.formats.specs.Contents.{NetworkContents}
-use Rattle.formats.specs.NetworkFile.{form, stop, stopCount, stops, runCount, walk, walks, times, connectionOf, timesOf, Departs, connection, departed, connectionCount, timetable, timetables, secondBefore, leastSecond, leastReached, seconds, reached, pointOf, secondsOf, Rises, point, passed, pointCount, road, roads, fields, arcOf, fieldsOf, Joins, arc, left, arcCount, arcs, runs, contentsOf, runsOf, FineNetwork, network}
+use Rattle.formats.specs.NetworkFile.{form, stop, stopCount, stops, runCount, walk, walks, times, connectionOf, timesOf, Departs, connection, departed, connectionCount, timetable, timetables, secondBefore, leastSecond, leastReached, seconds, reached, pointOf, secondsOf, Rises, point, passed, pointCount, road, roads, fields, arcOf, fieldsOf, Joins, anyArc, arc, left, arcCount, arcs, runs, contentsOf, runsOf, FineNetwork, network}
 
 pub stop-lawful : LawfulFormat stop
 stop-lawful = text-lawful (ranged 1 40 NameLength) (ranged-lawful 1 40 NameLength (lit< tt))
@@ -67,7 +67,7 @@ roads-lawful = plain-lawful runCount road runCount-lawful road-lawful
 module _ (stops services : ℕ) (few : stops ≤ 2 ^ 32) (some : services ≤ 2 ^ 32) where
   pub arc-lawful : (last : ℕ) → LawfulFormat (arc stops services last)
   arc-lawful last =
-      checked-lawful (λ a. leb last (a .tail)) TailFalls (mapped arcOf fieldsOf (Joins stops services) (fields stops services))
+      checked-lawful (λ a. leb last (a .tail)) TailFalls (anyArc stops services)
       (mapped-lawful arcOf fieldsOf (Joins stops services) (fields stops services)
       (λ x fine. ((fine .0, fine .1 .0, fine .1 .1 .0 .1, fine .1 .1 .1), refl))
       (λ a fine. ((fine .0, (fine .1, ((omega arith, fine .2), fine .3))), refl))

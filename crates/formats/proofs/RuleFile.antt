@@ -9,10 +9,11 @@ use lib.ListN.{length}
 use Rattle.std.specs.declared.option.Option.{Option}
 use Rattle.std.specs.declared.option.Option.the-variants.{Some, None}
 use Rattle.model.specs.declared.refusal.Refusal.the-variants.{RuleField, StepsNotAscending}
-use Rattle.wire.specs.Grammar.{Format, LawfulFormat, number, ranged, below, both, mapped}
+use Rattle.wire.specs.Grammar.{Format, LawfulFormat, number, ranged, below, both}
 use Rattle.wire.proofs.Laws.{number-lawful, ranged-lawful, below-lawful, checked-lawful, both-lawful, mapped-lawful, counted-lawful, plain-lawful}
-use Rattle.formats.specs.Contents.{RuleContents, RuleStep}
-use Rattle.formats.specs.RuleFile.{marked, markOf, mark, marks, fields, stepOf, fieldsOf, Leads, rises, step, stepped, steps, partsOf, contentsOf, FineRule, rule}
+use Rattle.formats.specs.declared.rule_step.RuleStep.{RuleStep}
+use Rattle.formats.specs.Contents.{RuleContents}
+use Rattle.formats.specs.RuleFile.{marked, markOf, mark, marks, fields, stepOf, fieldsOf, Leads, anyStep, rises, step, stepped, steps, partsOf, contentsOf, FineRule, rule}
 
 mark-back : (n : ℕ) → n ≤ 1 → markOf (marked n) ≡ n
 mark-back zero h = refl
@@ -32,7 +33,7 @@ marks-lawful = plain-lawful (ranged 1 16 RuleField) mark (ranged-lawful 1 16 Rul
 module _ (states : ℕ) (few : states ≤ 2 ^ 32) where
   pub step-lawful : (before : Option RuleStep) → LawfulFormat (step states before)
   step-lawful before =
-      checked-lawful (rises before) StepsNotAscending (mapped stepOf fieldsOf (Leads states) (fields states))
+      checked-lawful (rises before) StepsNotAscending (anyStep states)
       (mapped-lawful stepOf fieldsOf (Leads states) (fields states)
       (λ x fine. ((fine .0, fine .1 .0 .1, fine .1 .1), refl))
       (λ t fine. ((fine .0, ((omega arith, fine .1), fine .2)), refl))

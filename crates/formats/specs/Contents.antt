@@ -6,6 +6,7 @@ use lib.ListN.{length}
 use Rattle.model.specs.declared.network.Arc.{Arc}
 use Rattle.model.specs.declared.tables.Connection.{Connection}
 use Rattle.model.specs.declared.tables.Point.{Point}
+use Rattle.formats.specs.declared.rule_step.RuleStep.{RuleStep}
 
 -- a network file: the names of the stops, the services of the three runs, and the arcs
 pub record NetworkContents : Type 0 where
@@ -18,12 +19,6 @@ pub record NetworkContents : Type 0 where
 -- how many services there are: they are numbered through the runs
 abbrev pub services : NetworkContents → ℕ
 services n = length (n .walks) + length (n .timetables) + length (n .roads)
-
--- a step of a rule: from a state, by a label, to the next state
-pub record RuleStep : Type 0 where
-  pub state : ℕ
-  pub label : ℕ
-  pub next : ℕ
 
 -- a rule file: for each state whether it is an end, and the steps
 pub record RuleContents : Type 0 where

@@ -127,9 +127,13 @@ fieldsOf a = (a .tail, (a .head, (a .label, a .service)))
 abbrev pub Joins : ℕ → ℕ → Arc → Type 0
 Joins stops services a = (a .tail < stops) × (a .head < stops) × (a .label ≤ 5) × (a .service < services)
 
+-- an arc, whatever came before it
+abbrev pub anyArc : ℕ → ℕ → Format Arc
+anyArc stops services = mapped arcOf fieldsOf (Joins stops services) (fields stops services)
+
 -- an arc, after one whose tail is `last`: tails never fall
 abbrev pub arc : ℕ → ℕ → ℕ → Format Arc
-arc stops services last = checked (λ a. leb last (a .tail)) TailFalls (mapped arcOf fieldsOf (Joins stops services) (fields stops services))
+arc stops services last = checked (λ a. leb last (a .tail)) TailFalls (anyArc stops services)
 
 abbrev pub left : ℕ → Arc → ℕ
 left last a = a .tail

@@ -8,7 +8,8 @@ use Rattle.std.specs.declared.option.Option.{Option}
 use Rattle.std.specs.declared.option.Option.the-variants.{Some, None}
 use Rattle.model.specs.declared.refusal.Refusal.the-variants.{RuleField, StepsNotAscending}
 use Rattle.model.specs.Rules.{Automaton}
-use Rattle.formats.specs.Contents.{RuleContents, RuleStep}
+use Rattle.formats.specs.declared.rule_step.RuleStep.{RuleStep}
+use Rattle.formats.specs.Contents.{RuleContents}
 use Rattle.wire.specs.Grammar.{Format, number, ranged, below, both, mapped, checked, counted, plain}
 
 -- an end mark: 1 for an end, else 0
@@ -39,13 +40,18 @@ fieldsOf t = (t .state, (t .label, t .next))
 abbrev pub Leads : ℕ → RuleStep → Type 0
 Leads states t = (t .state < states) × (t .label ≤ 5) × (t .next < states)
 
+-- a step, whatever came before it
+abbrev pub anyStep : ℕ → Format RuleStep
+anyStep states = mapped stepOf fieldsOf (Leads states) (fields states)
+
 -- a step comes after the one before, if there is one: by state, then by label
 abbrev pub rises : Option RuleStep → RuleStep → Bool
 rises None t = true
 rises (Some before) t = ltb (before .state) (t .state) || (eqb (before .state) (t .state) && ltb (before .label) (t .label))
 
+-- a step after another
 abbrev pub step : ℕ → Option RuleStep → Format RuleStep
-step states before = checked (rises before) StepsNotAscending (mapped stepOf fieldsOf (Leads states) (fields states))
+step states before = checked (rises before) StepsNotAscending (anyStep states)
 
 abbrev pub stepped : Option RuleStep → RuleStep → Option RuleStep
 stepped before t = Some t

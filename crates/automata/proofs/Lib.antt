@@ -1,0 +1,4 @@
+pub mod Leading
+pub mod TableLaws
+pub mod BoardingLaws
+pub mod PairLaws

@@ -1,0 +1,2 @@
+pub mod Faultless
+mod Filled
