@@ -5,7 +5,7 @@ use mathlib.Core.Logic.{_⊎_, inl, inr}
 use mathlib.Core.List.{List, [], _∷_, _++_}
 use Prim.Native.Nat.{ℕ, _≤_, _<_}
 use native.Mathlib.Omega.{arith}
-use lib.ListN.{length, drop}
+use lib.ListN.{length, take, drop}
 use Rattle.std.specs.declared.option.Option.{Option}
 use Rattle.std.specs.declared.option.Option.the-variants.{Some, None}
 use Rattle.std.specs.declared.result.Result.{Result}
@@ -18,23 +18,28 @@ use Rattle.model.specs.declared.network.Place.{Place}
 use Rattle.model.specs.declared.network.Leg.{Leg}
 use Rattle.model.specs.Trips.{World, LawfulWorld, place, First, Journey, Ends, Chosen}
 use Rattle.model.specs.Suits.{Suits, NoneSuits}
-use Rattle.model.specs.Asking.{TieRule, Outnumbered, Answered, Outcome}
-use Rattle.model.proofs.Options.{not-ok}
+use Rattle.model.specs.Asking.{rows-needed, refusal-of, TieRule, Outnumbered, Answered, Outcome, Asked}
+use Rattle.model.proofs.Options.{not-ok, not-none}
 use Rattle.model.proofs.Halves.{trip-suits, suits-trip}
 use Rattle.model.proofs.Extending.{journey-is-trip}
 use Rattle.model.proofs.Asks.{legs-are-one}
 use Rattle.labels.specs.declared.label.Label.{Label}
 use Rattle.labels.specs.Table.{Table, Traced}
+use Rattle.labels.specs.Rows.{Rows, view}
 use Rattle.labels.proofs.Held.{Rests, search-rests}
 use Rattle.labels.proofs.Solving.{first-of, journey-of, traced-of, chosen, arrives, no-trip}
 use Rattle.labels.proofs.Tracing.{traced-length}
-use Rattle.engine.specs.Agenda.{Stopped, Exhausted}
+use Rattle.engine.specs.declared.entry.Entry.{Entry}
+use Rattle.engine.specs.Agenda.{Stopped, Exhausted, Ended, Searched}
 
 err-is : (f g : Refusal) → _≡_ {A = Result Found Refusal} (Err f) (Err g) → f ≡ g
 err-is f g e = cc
 
 found-is : (f g : Found) → _≡_ {A = Result Found Refusal} (Ok f) (Ok g) → f ≡ g
 found-is f g e = cc
+
+ok-is : (x y : Option (ℕ × Label)) → _≡_ {A = Result (Option (ℕ × Label)) Refusal} (Ok x) (Ok y) → x ≡ y
+ok-is x y e = cc
 
 not-same : NoJourney ≡ RowsShort → ⊥
 not-same e = let z : _≡_ {A = ℕ} 0 1 = cc in omega arith
@@ -126,3 +131,28 @@ module _ (w : World) (law : LawfulWorld w) (e : Enquiry) (T : Table) where
               no-trip-arrives-earlier = earliest;
             });
       }
+
+-- a search that gives a result is past the tests, and has ended so
+module _ (stops count : ℕ) (w : World) (e : Enquiry) (labels labels′ : Rows) (slots slots′ : List Entry) (r : Result (Option (ℕ × Label)) Refusal)
+    (x : Option (ℕ × Label)) (s : Searched stops count w e labels labels′ slots slots′ r) (was : r ≡ Ok x) where
+  past : (f : Option Refusal) → refusal-of stops count w e (length labels) (length slots) ≡ f → f ≡ None
+  past None h = refl
+  past (Some f) h = absurd (not-ok x f (sym was ∙ s .refused f h .0))
+
+  pub passed : refusal-of stops count w e (length labels) (length slots) ≡ None
+  passed = past (refusal-of stops count w e (length labels) (length slots)) refl
+
+  pub ended : Ended w (place (e .start) 0) (e .second) (e .target) (view (w .states) (take (rows-needed stops w) labels′)) x
+  ended =
+      let y = s .searched passed in
+      let same : y .0 ≡ x = ok-is (y .0) x (sym (y .1) ∙ was) in
+      subst (λ (z : Option (ℕ × Label)). Ended w (place (e .start) 0) (e .second) (e .target) (view (w .states) (take (rows-needed stops w) labels′)) z) same (y .2)
+
+  pub asked : (slip slip′ : List Leg) (result : Result Found Refusal) → Outcome w e slip slip′ result
+      → (length labels′ ≡ length labels) × (length slots′ ≡ length slots) × (length slip′ ≡ length slip)
+      → Asked stops count w e labels labels′ slots slots′ slip slip′ result
+  asked slip slip′ result o sizes = record {
+    refused-by-tests = λ f h. absurd (not-none f (sym passed ∙ h));
+    past-tests = λ _. o;
+    sizes = sizes;
+  }
