@@ -54,7 +54,17 @@ fn turn<B: Book, R: Rule>(
     };
     labels[number as usize] = Some(settled);
     let range = network.leaving(from.stop);
-    relax(network, range.first, range.end, book, rule, labels, queue, from, settled);
+    relax(
+        network,
+        range.first,
+        range.end,
+        book,
+        rule,
+        labels,
+        queue,
+        from,
+        settled,
+    );
 }
 
 /// Whether the place at a stop in a state is one of the target's in an end state.

@@ -71,7 +71,6 @@ traced-none arcs T l {js} {q} (source e h) f none = refl
 traced-none arcs T l {js} {q} (after {l = k} e h n pe g more is) f none =
     let z : k .legs ≡ l .legs = ap Label.legs (one-some (T q) k l e f) in absurd (omega arith)
 
-
 -- a label has as many legs as can be traced back from it
 pub traced-length : (arcs : List Arc) (T : Table) {js : List Leg} {q : Place} → Traced arcs T js q → (l : Label) → T q ≡ Some l → length js ≡ l .legs
 traced-length arcs T {js} {q} (source {l = k} e h) l f =
