@@ -83,7 +83,7 @@ impl Faults {
 }
 
 /// An ask with faults that the network and the rule have already.
-fn faulty<B: Book, R: Rule>(
+fn refused_ask<B: Book, R: Rule>(
     rt: &LibcRuntime,
     network: Network<'_>,
     book: &B,
@@ -118,7 +118,7 @@ fn faulty<B: Book, R: Rule>(
 }
 
 /// An ask with random faults.
-pub fn faults<B: Book, R: Rule>(
+pub fn faulty_asks<B: Book, R: Rule>(
     rt: &LibcRuntime,
     book: &B,
     rule: &R,
@@ -136,12 +136,12 @@ pub fn faults<B: Book, R: Rule>(
         return Err("a network was refused".into());
     }
     if !faults.states {
-        return faulty(rt, network, book, rule, sample, faults, dice, tally);
+        return refused_ask(rt, network, book, rule, sample, faults, dice, tally);
     }
     let (Ok(few), Ok(many)) = (BoardingRule::new(4), BoardingRule::new(12)) else {
         return Err("a rule was refused".into());
     };
-    faulty(
+    refused_ask(
         rt,
         network,
         book,

@@ -1,7 +1,7 @@
 //! One network with its book and its rule.
 use crate::asks::asks;
 use crate::dice::Dice;
-use crate::faults::faults;
+use crate::faults::faulty_asks;
 use crate::sample::Kind;
 use crate::sample::Sample;
 use crate::tally::Tally;
@@ -118,5 +118,5 @@ fn tried<B: Book, R: Rule>(
     tally: &mut Tally,
 ) -> Result<(), AnyError> {
     asks(rt, network, book, rule, sample, dice, tally)?;
-    faults(rt, book, rule, sample, dice, tally)
+    faulty_asks(rt, book, rule, sample, dice, tally)
 }
