@@ -4,3 +4,4 @@ pub mod Unique
 pub mod Waiting
 pub mod Halves
 pub mod Asks
+pub mod Extending

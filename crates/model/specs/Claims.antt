@@ -62,6 +62,11 @@ Eager-is-trip =
     (w : World) (o p q : Place) (t a b : ℕ) (ls : List Leg) → Eager w o t p a ls q b
     → Trip w p a ls q b × NeverWaits a ls × First w o t p a × First w o t q b
 
+-- the tie rule's journey to a place is a trip that arrives at its first second
+abbrev pub Journey-is-trip : Type 0
+Journey-is-trip =
+    (w : World) (o : Place) (t : ℕ) (q : Place) (js : List Leg) (a : ℕ) → Journey w o t js q → First w o t q a → Trip w o t js q a
+
 -- two asks of one enquiry in one world that are both answered give the same arrival, the same number of legs and the same legs
 abbrev pub Answered-alike : Type 1
 Answered-alike =
