@@ -86,10 +86,10 @@ fn by_rule<B: Book>(
     let steps = sample.rule.table.steps(rt.alloc())?;
     let ends = sample.rule.table.ends.as_slice();
     let states = u32::try_from(ends.len()).unwrap_or(0);
-    let (Ok(table), Ok(boarding)) = (
-        TableRule::new(states, steps.as_slice(), ends),
-        BoardingRule::new(sample.rule.limit),
-    ) else {
+    let Ok(table) = TableRule::new(states, steps.as_slice(), ends) else {
+        return Err("a rule was refused".into());
+    };
+    let Ok(boarding) = BoardingRule::new(sample.rule.limit) else {
         return Err("a rule was refused".into());
     };
     match sample.rule.kind {
