@@ -93,15 +93,7 @@ fn ask<B: Book, R: Rule>(
 ) -> Result<(), AnyError> {
     let heap = rt.alloc();
     let mut desk = Desk::new(sample.places(), sample.entries(), rows, heap)?;
-    let answer = search::ask(
-        network,
-        book,
-        rule,
-        enquiry,
-        desk.labels.as_mut_slice(),
-        desk.slots.as_mut_slice(),
-        desk.slip.as_mut_slice(),
-    );
+    let answer = desk.ask(network, book, rule, enquiry);
     if is_right(sample, journey, answer, &desk, tally, heap)? {
         return Ok(());
     }

@@ -1,9 +1,13 @@
 //! What is handed in with an ask, and what it should then hold.
-use labels::Label;
+use book::Book;
+use model::Enquiry;
 use model::Found;
 use model::Leg;
 use model::Refusal;
+use network::Network;
+use rules::Rule;
 use search::Entry;
+use search::Label;
 use std::alloc::AllocError;
 use std::alloc::Global;
 
@@ -46,6 +50,25 @@ impl Desk {
             slots: vec![in heap; ENTRY; slots]?,
             slip: vec![in heap; BLANK; rows]?,
         })
+    }
+
+    /// Asks with these tables.
+    pub fn ask<B: Book, R: Rule>(
+        &mut self,
+        network: Network<'_>,
+        book: &B,
+        rule: &R,
+        enquiry: Enquiry,
+    ) -> Result<Found, Refusal> {
+        search::ask(
+            network,
+            book,
+            rule,
+            enquiry,
+            self.labels.as_mut_slice(),
+            self.slots.as_mut_slice(),
+            self.slip.as_mut_slice(),
+        )
     }
 
     /// Whether label table and queue are as they were made.

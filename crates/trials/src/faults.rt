@@ -13,6 +13,7 @@ use rules::BoardingRuleRule;
 use rules::Pair;
 use rules::PairRule;
 use rules::Rule;
+use rules::RuleFault;
 use std::error::AnyError;
 
 /// What is wrong with an ask.
@@ -83,7 +84,7 @@ impl Faults {
 }
 
 /// An ask with faults that the network and the rule have already.
-fn faulty<B: Book, R: Rule>(
+fn refused_ask<B: Book, R: Rule>(
     rt: &LibcRuntime,
     network: Network<'_>,
     book: &B,
@@ -100,15 +101,7 @@ fn faulty<B: Book, R: Rule>(
     let labels = sample.places().saturating_sub(faults.labels as usize);
     let slots = sample.entries().saturating_sub(faults.slots as usize);
     let mut desk = Desk::new(labels, slots, 4, rt.alloc())?;
-    let answer = search::ask(
-        network,
-        book,
-        rule,
-        enquiry,
-        desk.labels.as_mut_slice(),
-        desk.slots.as_mut_slice(),
-        desk.slip.as_mut_slice(),
-    );
+    let answer = desk.ask(network, book, rule, enquiry);
     tally.refusal(number);
     if is_refused(answer, number) && desk.has_legs(&[]) && desk.is_untouched() {
         return Ok(());
@@ -118,7 +111,7 @@ fn faulty<B: Book, R: Rule>(
 }
 
 /// An ask with random faults.
-pub fn faults<B: Book, R: Rule>(
+pub fn faulty_asks<B: Book, R: Rule>(
     rt: &LibcRuntime,
     book: &B,
     rule: &R,
@@ -136,19 +129,17 @@ pub fn faults<B: Book, R: Rule>(
         return Err("a network was refused".into());
     }
     if !faults.states {
-        return faulty(rt, network, book, rule, sample, faults, dice, tally);
+        return refused_ask(rt, network, book, rule, sample, faults, dice, tally);
     }
-    let (Ok(few), Ok(many)) = (BoardingRule::new(4), BoardingRule::new(12)) else {
+    let Ok(wide) = wide_rule() else {
         return Err("a rule was refused".into());
     };
-    faulty(
-        rt,
-        network,
-        book,
-        &Pair::new(few, many),
-        sample,
-        faults,
-        dice,
-        tally,
-    )
+    refused_ask(rt, network, book, &wide, sample, faults, dice, tally)
+}
+
+/// A rule of 65 states, or of what a pair of 5 and of 13 states counts as.
+fn wide_rule() -> Result<Pair<BoardingRule, BoardingRule>, RuleFault> {
+    let few = BoardingRule::new(4)?;
+    let many = BoardingRule::new(12)?;
+    Ok(Pair::new(few, many))
 }

@@ -1,7 +1,7 @@
 //! One network with its book and its rule.
 use crate::asks::asks;
 use crate::dice::Dice;
-use crate::faults::faults;
+use crate::faults::faulty_asks;
 use crate::sample::Kind;
 use crate::sample::Sample;
 use crate::tally::Tally;
@@ -86,10 +86,10 @@ fn by_rule<B: Book>(
     let steps = sample.rule.table.steps(rt.alloc())?;
     let ends = sample.rule.table.ends.as_slice();
     let states = u32::try_from(ends.len()).unwrap_or(0);
-    let (Ok(table), Ok(boarding)) = (
-        TableRule::new(states, steps.as_slice(), ends),
-        BoardingRule::new(sample.rule.limit),
-    ) else {
+    let Ok(table) = TableRule::new(states, steps.as_slice(), ends) else {
+        return Err("a rule was refused".into());
+    };
+    let Ok(boarding) = BoardingRule::new(sample.rule.limit) else {
         return Err("a rule was refused".into());
     };
     match sample.rule.kind {
@@ -118,5 +118,5 @@ fn tried<B: Book, R: Rule>(
     tally: &mut Tally,
 ) -> Result<(), AnyError> {
     asks(rt, network, book, rule, sample, dice, tally)?;
-    faults(rt, book, rule, sample, dice, tally)
+    faulty_asks(rt, book, rule, sample, dice, tally)
 }
