@@ -1,0 +1,5 @@
+pub mod BothWays
+pub mod NetworkFile
+pub mod RuleFile
+pub mod Examples
+pub mod Chains

@@ -1,0 +1,5 @@
+pub mod Contents
+pub mod NetworkFile
+pub mod RuleFile
+pub mod Theorems
+pub mod Examples

@@ -1,0 +1,5 @@
+pub mod Answers
+pub mod Spans
+pub mod Walks
+pub mod Timetables
+pub mod Roads

@@ -1,0 +1,1 @@
+//! What service books answer, as definitions over lists and numbers, and the proofs that these answers keep the laws of books.
