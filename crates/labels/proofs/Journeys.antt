@@ -117,31 +117,59 @@ module _ (count : ℕ) (answer : ℕ → ℕ → Option ℕ) (law : LawfulBook c
   closes₇ : (q : Place) (i a : ℕ) → Each (λ p k. k .settled ≡ true → Rides w₇ p (record { arc = i; entered = k .second; arrived = a }) q → Closes₇ p q k i a) labels₇
   closes₇ q i a = (
     λ _ r. each-arc (λ j x. j ≡ i → x ≡ r .along → Closes₇ (place 0 0) q (label 0 0 0 0 true) i a) straight-or-round (
-      λ n x. let y = landing straight-or-round answer (place 0 0) q i 0 a 100 _ r x refl refl e₀ in let u : 100 ≡ a = y .1 in (label 100 1 0 0 true, subst (λ (z : Place). table labels₇ z ≡ Some (label 100 1 0 0 true)) (y .0) refl, omega arith), (
-        λ n x. let y = landing straight-or-round answer (place 0 0) q i 0 a 300 _ r x refl refl e₁ in let u : 300 ≡ a = y .1 in (label 300 1 1 0 false, subst (λ (z : Place). table labels₇ z ≡ Some (label 300 1 1 0 false)) (y .0) refl, omega arith), (
-          λ n x. absurd (elsewhere straight-or-round answer (place 0 0) q (record { arc = i; entered = 0; arrived = a }) _ r x (λ h. omega arith)), tt))) i (r .along) (r .numbered) refl refl, (
+      λ n x. let y = landing straight-or-round answer (place 0 0) q i 0 a 100 _ r x refl refl e₀ in let u : 100 ≡ a = y .1 in (label 100 1 0 0 true, subst (λ (z : Place). table labels₇ z ≡ Some (label 100 1 0 0 true)) (y .0) refl, omega arith),
+      (
+        λ n x. let y = landing straight-or-round answer (place 0 0) q i 0 a 300 _ r x refl refl e₁ in let u : 300 ≡ a = y .1 in (label 300 1 1 0 false, subst (λ (z : Place). table labels₇ z ≡ Some (label 300 1 1 0 false)) (y .0) refl, omega arith),
+        (
+          λ n x. absurd (elsewhere straight-or-round answer (place 0 0) q (record { arc = i; entered = 0; arrived = a }) _ r x (λ h. omega arith)),
+          tt,
+        ),
+      ),
+    ) i (r .along) (r .numbered) refl refl,
+    (
       λ _ r. each-arc (λ j x. j ≡ i → x ≡ r .along → Closes₇ (place 1 0) q (label 100 1 0 0 true) i a) straight-or-round (
-        λ n x. absurd (elsewhere straight-or-round answer (place 1 0) q (record { arc = i; entered = 100; arrived = a }) _ r x (λ h. omega arith)), (
-          λ n x. absurd (elsewhere straight-or-round answer (place 1 0) q (record { arc = i; entered = 100; arrived = a }) _ r x (λ h. omega arith)), (
-            λ n x. let y = landing straight-or-round answer (place 1 0) q i 100 a 300 _ r x refl refl e₂ in let u : 300 ≡ a = y .1 in (label 300 1 1 0 false, subst (λ (z : Place). table labels₇ z ≡ Some (label 300 1 1 0 false)) (y .0) refl, omega arith), tt))) i (r .along) (r .numbered) refl refl, (
-        λ s _. absurd (both-ways false refl s), tt)))
+        λ n x. absurd (elsewhere straight-or-round answer (place 1 0) q (record { arc = i; entered = 100; arrived = a }) _ r x (λ h. omega arith)),
+        (
+          λ n x. absurd (elsewhere straight-or-round answer (place 1 0) q (record { arc = i; entered = 100; arrived = a }) _ r x (λ h. omega arith)),
+          (
+            λ n x. let y = landing straight-or-round answer (place 1 0) q i 100 a 300 _ r x refl refl e₂ in let u : 300 ≡ a = y .1 in (label 300 1 1 0 false, subst (λ (z : Place). table labels₇ z ≡ Some (label 300 1 1 0 false)) (y .0) refl, omega arith),
+            tt,
+          ),
+        ),
+      ) i (r .along) (r .numbered) refl refl,
+      (
+        λ s _. absurd (both-ways false refl s),
+        tt,
+      ),
+    ),
+  )
 
   rests₇ : Rests w₇ (place 0 0) 0 (table labels₇)
   rests₇ = record {
     origin = (label 0 0 0 0 true, refl, refl, refl);
     late = each (λ q l. 0 ≤ l .second) labels₇ (omega arith, (omega arith, (omega arith, tt)));
     made = each (λ q l. ((q ≡ place 0 0) × (l .second ≡ 0) × (l .legs ≡ 0)) ⊎ Made w₇ (table labels₇) q l) labels₇ (
-      inl (refl, refl, refl), (
-        inr (record { from = place 0 0; label = label 0 0 0 0 true; known = refl; settled = refl; state = refl; legs = refl; rides = record { along = record { tail = 0; head = 1; label = 0; service = 0 }; numbered = refl; leaves = refl; reaches = refl; spells = refl; served = e₀ } }), (
-          inr (record { from = place 0 0; label = label 0 0 0 0 true; known = refl; settled = refl; state = refl; legs = refl; rides = record { along = record { tail = 0; head = 2; label = 0; service = 1 }; numbered = refl; leaves = refl; reaches = refl; spells = refl; served = e₁ } }), tt)));
+      inl (refl, refl, refl),
+      (
+        inr (record { from = place 0 0; label = label 0 0 0 0 true; known = refl; settled = refl; state = refl; legs = refl; rides = record { along = record { tail = 0; head = 1; label = 0; service = 0 }; numbered = refl; leaves = refl; reaches = refl; spells = refl; served = e₀ } }),
+        (
+          inr (record { from = place 0 0; label = label 0 0 0 0 true; known = refl; settled = refl; state = refl; legs = refl; rides = record { along = record { tail = 0; head = 2; label = 0; service = 1 }; numbered = refl; leaves = refl; reaches = refl; spells = refl; served = e₁ } }),
+          tt,
+        ),
+      ),
+    );
     closed = λ p q k i a e s _ r. each (λ p k. k .settled ≡ true → Rides w₇ p (record { arc = i; entered = k .second; arrived = a }) q → Closes₇ p q k i a) labels₇ (closes₇ q i a) p k e s r;
     ordered = λ p q k l e s f u. each (λ p k. k .settled ≡ true → Upto2 (k .second) (k .legs) (l .second) (l .legs)) labels₇ (
-      λ _. last₇ 0 0 q l f u (omega arith), (λ _. last₇ 100 1 q l f u (omega arith), (λ z. absurd (both-ways false refl z), tt))) p k e s;
+      λ _. last₇ 0 0 q l f u (omega arith),
+      (λ _. last₇ 100 1 q l f u (omega arith), (λ z. absurd (both-ways false refl z), tt)),
+    ) p k e s;
   }
     where
       last₇ : (second legs : ℕ) (q : Place) (l : Label) → table labels₇ q ≡ Some l → l .settled ≡ false → Upto2 second legs 300 1 → Upto2 second legs (l .second) (l .legs)
       last₇ second legs q l f u h = each (λ q l. l .settled ≡ false → Upto2 second legs (l .second) (l .legs)) labels₇ (
-        λ z. absurd (both-ways true z refl), (λ z. absurd (both-ways true z refl), (λ _. h, tt))) q l f u
+        λ z. absurd (both-ways true z refl),
+        (λ z. absurd (both-ways true z refl), (λ _. h, tt)),
+      ) q l f u
 
   one-walk : Answer w₇ (place 0 0) 0 2 (Some (record { arc = 1; entered = 0; arrived = 300 } ∷ []))
   one-walk = (
@@ -158,7 +186,9 @@ module _ (count : ℕ) (answer : ℕ → ℕ → Option ℕ) (law : LawfulBook c
         here = refl;
         unsettled = refl;
         least = λ q m e u. each (λ q m. m .settled ≡ false → Upto2 300 1 (m .second) (m .legs)) labels₇ (
-          λ z. absurd (both-ways true z refl), (λ z. absurd (both-ways true z refl), (λ _. omega arith, tt))) q m e u;
+          λ z. absurd (both-ways true z refl),
+          (λ z. absurd (both-ways true z refl), (λ _. omega arith, tt)),
+        ) q m e u;
       }
 
 pub one-walk-beats-two : One-walk-beats-two
@@ -189,39 +219,83 @@ module _ (count : ℕ) (answer : ℕ → ℕ → Option ℕ) (landed : ℕ) (law
   closes₈ : (q : Place) (i a : ℕ) → Each (λ p k. k .settled ≡ true → Rides w₈ p (record { arc = i; entered = k .second; arrived = a }) q → Closes₈ p q k i a) labels₈
   closes₈ q i a = (
     λ _ r. each-arc (λ j x. j ≡ i → x ≡ r .along → Closes₈ (place 0 0) q (label 0 0 0 0 true) i a) to-the-pier (
-      λ n x. let y = landing to-the-pier answer (place 0 0) q i 0 a 100 _ r x refl refl e₀ in let u : 100 ≡ a = y .1 in (label 100 1 0 0 true, subst (λ (z : Place). table labels₈ z ≡ Some (label 100 1 0 0 true)) (y .0) refl, omega arith), (
-      λ n x. let y = landing to-the-pier answer (place 0 0) q i 0 a 500 _ r x refl refl e₁ in let u : 500 ≡ a = y .1 in (label 200 2 2 0 true, subst (λ (z : Place). table labels₈ z ≡ Some (label 200 2 2 0 true)) (y .0) refl, omega arith), (
-      λ n x. absurd (elsewhere to-the-pier answer (place 0 0) q (record { arc = i; entered = 0; arrived = a }) _ r x (λ h. omega arith)), (
-      λ n x. absurd (elsewhere to-the-pier answer (place 0 0) q (record { arc = i; entered = 0; arrived = a }) _ r x (λ h. omega arith)), tt)))) i (r .along) (r .numbered) refl refl, (
-    λ _ r. each-arc (λ j x. j ≡ i → x ≡ r .along → Closes₈ (place 1 0) q (label 100 1 0 0 true) i a) to-the-pier (
-      λ n x. absurd (elsewhere to-the-pier answer (place 1 0) q (record { arc = i; entered = 100; arrived = a }) _ r x (λ h. omega arith)), (
-      λ n x. absurd (elsewhere to-the-pier answer (place 1 0) q (record { arc = i; entered = 100; arrived = a }) _ r x (λ h. omega arith)), (
-      λ n x. let y = landing to-the-pier answer (place 1 0) q i 100 a 200 _ r x refl refl e₂ in let u : 200 ≡ a = y .1 in (label 200 2 2 0 true, subst (λ (z : Place). table labels₈ z ≡ Some (label 200 2 2 0 true)) (y .0) refl, omega arith), (
-      λ n x. absurd (elsewhere to-the-pier answer (place 1 0) q (record { arc = i; entered = 100; arrived = a }) _ r x (λ h. omega arith)), tt)))) i (r .along) (r .numbered) refl refl, (
-    λ _ r. each-arc (λ j x. j ≡ i → x ≡ r .along → Closes₈ (place 2 0) q (label 200 2 2 0 true) i a) to-the-pier (
-      λ n x. absurd (elsewhere to-the-pier answer (place 2 0) q (record { arc = i; entered = 200; arrived = a }) _ r x (λ h. omega arith)), (
-      λ n x. absurd (elsewhere to-the-pier answer (place 2 0) q (record { arc = i; entered = 200; arrived = a }) _ r x (λ h. omega arith)), (
-      λ n x. absurd (elsewhere to-the-pier answer (place 2 0) q (record { arc = i; entered = 200; arrived = a }) _ r x (λ h. omega arith)), (
-      λ n x. let y = landing to-the-pier answer (place 2 0) q i 200 a landed _ r x refl refl e₃ in let u : landed ≡ a = y .1 in (label landed 3 3 0 false, subst (λ (z : Place). table labels₈ z ≡ Some (label landed 3 3 0 false)) (y .0) refl, omega arith), tt)))) i (r .along) (r .numbered) refl refl, (
-    λ s _. absurd (both-ways false refl s), tt))))
+      λ n x. let y = landing to-the-pier answer (place 0 0) q i 0 a 100 _ r x refl refl e₀ in let u : 100 ≡ a = y .1 in (label 100 1 0 0 true, subst (λ (z : Place). table labels₈ z ≡ Some (label 100 1 0 0 true)) (y .0) refl, omega arith),
+      (
+        λ n x. let y = landing to-the-pier answer (place 0 0) q i 0 a 500 _ r x refl refl e₁ in let u : 500 ≡ a = y .1 in (label 200 2 2 0 true, subst (λ (z : Place). table labels₈ z ≡ Some (label 200 2 2 0 true)) (y .0) refl, omega arith),
+        (
+          λ n x. absurd (elsewhere to-the-pier answer (place 0 0) q (record { arc = i; entered = 0; arrived = a }) _ r x (λ h. omega arith)),
+          (
+            λ n x. absurd (elsewhere to-the-pier answer (place 0 0) q (record { arc = i; entered = 0; arrived = a }) _ r x (λ h. omega arith)),
+            tt,
+          ),
+        ),
+      ),
+    ) i (r .along) (r .numbered) refl refl,
+    (
+      λ _ r. each-arc (λ j x. j ≡ i → x ≡ r .along → Closes₈ (place 1 0) q (label 100 1 0 0 true) i a) to-the-pier (
+        λ n x. absurd (elsewhere to-the-pier answer (place 1 0) q (record { arc = i; entered = 100; arrived = a }) _ r x (λ h. omega arith)),
+        (
+          λ n x. absurd (elsewhere to-the-pier answer (place 1 0) q (record { arc = i; entered = 100; arrived = a }) _ r x (λ h. omega arith)),
+          (
+            λ n x. let y = landing to-the-pier answer (place 1 0) q i 100 a 200 _ r x refl refl e₂ in let u : 200 ≡ a = y .1 in (label 200 2 2 0 true, subst (λ (z : Place). table labels₈ z ≡ Some (label 200 2 2 0 true)) (y .0) refl, omega arith),
+            (
+              λ n x. absurd (elsewhere to-the-pier answer (place 1 0) q (record { arc = i; entered = 100; arrived = a }) _ r x (λ h. omega arith)),
+              tt,
+            ),
+          ),
+        ),
+      ) i (r .along) (r .numbered) refl refl,
+      (
+        λ _ r. each-arc (λ j x. j ≡ i → x ≡ r .along → Closes₈ (place 2 0) q (label 200 2 2 0 true) i a) to-the-pier (
+          λ n x. absurd (elsewhere to-the-pier answer (place 2 0) q (record { arc = i; entered = 200; arrived = a }) _ r x (λ h. omega arith)),
+          (
+            λ n x. absurd (elsewhere to-the-pier answer (place 2 0) q (record { arc = i; entered = 200; arrived = a }) _ r x (λ h. omega arith)),
+            (
+              λ n x. absurd (elsewhere to-the-pier answer (place 2 0) q (record { arc = i; entered = 200; arrived = a }) _ r x (λ h. omega arith)),
+              (
+                λ n x. let y = landing to-the-pier answer (place 2 0) q i 200 a landed _ r x refl refl e₃ in let u : landed ≡ a = y .1 in (label landed 3 3 0 false, subst (λ (z : Place). table labels₈ z ≡ Some (label landed 3 3 0 false)) (y .0) refl, omega arith),
+                tt,
+              ),
+            ),
+          ),
+        ) i (r .along) (r .numbered) refl refl,
+        (
+          λ s _. absurd (both-ways false refl s),
+          tt,
+        ),
+      ),
+    ),
+  )
 
   rests₈ : Rests w₈ (place 0 0) 0 (table labels₈)
   rests₈ = record {
     origin = (label 0 0 0 0 true, refl, refl, refl);
     late = each (λ q l. 0 ≤ l .second) labels₈ (omega arith, (omega arith, (omega arith, (omega arith, tt))));
     made = each (λ q l. ((q ≡ place 0 0) × (l .second ≡ 0) × (l .legs ≡ 0)) ⊎ Made w₈ (table labels₈) q l) labels₈ (
-      inl (refl, refl, refl), (
-      inr (record { from = place 0 0; label = label 0 0 0 0 true; known = refl; settled = refl; state = refl; legs = refl; rides = record { along = record { tail = 0; head = 1; label = 0; service = 0 }; numbered = refl; leaves = refl; reaches = refl; spells = refl; served = e₀ } }), (
-      inr (record { from = place 1 0; label = label 100 1 0 0 true; known = refl; settled = refl; state = refl; legs = refl; rides = record { along = record { tail = 1; head = 2; label = 0; service = 2 }; numbered = refl; leaves = refl; reaches = refl; spells = refl; served = e₂ } }), (
-      inr (record { from = place 2 0; label = label 200 2 2 0 true; known = refl; settled = refl; state = refl; legs = refl; rides = record { along = record { tail = 2; head = 3; label = 2; service = 3 }; numbered = refl; leaves = refl; reaches = refl; spells = refl; served = e₃ } }), tt))));
+      inl (refl, refl, refl),
+      (
+        inr (record { from = place 0 0; label = label 0 0 0 0 true; known = refl; settled = refl; state = refl; legs = refl; rides = record { along = record { tail = 0; head = 1; label = 0; service = 0 }; numbered = refl; leaves = refl; reaches = refl; spells = refl; served = e₀ } }),
+        (
+          inr (record { from = place 1 0; label = label 100 1 0 0 true; known = refl; settled = refl; state = refl; legs = refl; rides = record { along = record { tail = 1; head = 2; label = 0; service = 2 }; numbered = refl; leaves = refl; reaches = refl; spells = refl; served = e₂ } }),
+          (
+            inr (record { from = place 2 0; label = label 200 2 2 0 true; known = refl; settled = refl; state = refl; legs = refl; rides = record { along = record { tail = 2; head = 3; label = 2; service = 3 }; numbered = refl; leaves = refl; reaches = refl; spells = refl; served = e₃ } }),
+            tt,
+          ),
+        ),
+      ),
+    );
     closed = λ p q k i a e s _ r. each (λ p k. k .settled ≡ true → Rides w₈ p (record { arc = i; entered = k .second; arrived = a }) q → Closes₈ p q k i a) labels₈ (closes₈ q i a) p k e s r;
     ordered = λ p q k l e s f u. let h : 200 ≤ landed = aboard in each (λ p k. k .settled ≡ true → Upto2 (k .second) (k .legs) (l .second) (l .legs)) labels₈ (
-      λ _. last₈ 0 0 q l f u (omega arith), (λ _. last₈ 100 1 q l f u (omega arith), (λ _. last₈ 200 2 q l f u (omega arith), (λ z. absurd (both-ways false refl z), tt)))) p k e s;
+      λ _. last₈ 0 0 q l f u (omega arith),
+      (λ _. last₈ 100 1 q l f u (omega arith), (λ _. last₈ 200 2 q l f u (omega arith), (λ z. absurd (both-ways false refl z), tt))),
+    ) p k e s;
   }
     where
       last₈ : (second legs : ℕ) (q : Place) (l : Label) → table labels₈ q ≡ Some l → l .settled ≡ false → Upto2 second legs landed 3 → Upto2 second legs (l .second) (l .legs)
       last₈ second legs q l f u h = each (λ q l. l .settled ≡ false → Upto2 second legs (l .second) (l .legs)) labels₈ (
-        λ z. absurd (both-ways true z refl), (λ z. absurd (both-ways true z refl), (λ z. absurd (both-ways true z refl), (λ _. h, tt)))) q l f u
+        λ z. absurd (both-ways true z refl),
+        (λ z. absurd (both-ways true z refl), (λ z. absurd (both-ways true z refl), (λ _. h, tt))),
+      ) q l f u
 
   two-walks : Answer w₈ (place 0 0) 0 3
       (Some (record { arc = 0; entered = 0; arrived = 100 } ∷ record { arc = 2; entered = 100; arrived = 200 } ∷ record { arc = 3; entered = 200; arrived = landed } ∷ []))
@@ -245,7 +319,9 @@ module _ (count : ℕ) (answer : ℕ → ℕ → Option ℕ) (landed : ℕ) (law
         here = refl;
         unsettled = refl;
         least = λ q m e u. each (λ q m. m .settled ≡ false → Upto2 landed 3 (m .second) (m .legs)) labels₈ (
-          λ z. absurd (both-ways true z refl), (λ z. absurd (both-ways true z refl), (λ z. absurd (both-ways true z refl), (λ _. omega arith, tt)))) q m e u;
+          λ z. absurd (both-ways true z refl),
+          (λ z. absurd (both-ways true z refl), (λ z. absurd (both-ways true z refl), (λ _. omega arith, tt))),
+        ) q m e u;
       }
 
 pub two-walks-to-a-boat : Two-walks-to-a-boat
