@@ -11,5 +11,6 @@ pub fn theorems_hold() -> bool
     ensures one_walk_beats_two { λ _. ⌜ One-walk-beats-two ⌝ }
     ensures two_walks_to_a_boat { λ _. ⌜ Two-walks-to-a-boat ⌝ }
 {
-    true
+    let proved = true;
+    proved
 }
