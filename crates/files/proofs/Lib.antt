@@ -1,2 +1,5 @@
 pub mod Counting
 pub mod Storing
+pub mod Lists
+pub mod Filling
+pub mod Passes
