@@ -3,3 +3,4 @@ pub mod Storing
 pub mod Lists
 pub mod Filling
 pub mod Passes
+pub mod Making

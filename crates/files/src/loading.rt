@@ -5,6 +5,7 @@ ghost use Rattle.formats.specs.NetworkFile.{network};
 ghost use Rattle.formats.specs.Theorems.{Writes-back};
 ghost use Rattle.records.specs.Records.{meant};
 ghost use Rattle.files.specs.Filling.{Short, Bounded, stored};
+ghost use Rattle.files.specs.Making.{Rows-hold-names, Files-make-books-and-networks};
 ghost use Rattle.files.specs.Progress.{filling, Fills};
 ghost use Rattle.files.specs.Loading.{Accepted, loads, measured};
 use crate::rows::Counts;
@@ -41,6 +42,8 @@ pub fn load(
 ) -> Result<Loaded, Fault>
     ensures loads { λ r. ⌜ (r, record { names = now (names .exit); walks = now (walks .exit); timetables = now (timetables .exit); connections = now (connections .exit); roads = now (roads .exit); points = now (points .exit); arcs = now (arcs .exit) }) ≡ loads (network .read (now (file .entry)) 0) (record { names = now (names .entry); walks = now (walks .entry); timetables = now (timetables .entry); connections = now (connections .entry); roads = now (roads .entry); points = now (points .entry); arcs = now (arcs .entry) }) ⌝ }
     ensures back { λ _. ⌜ Writes-back network ⌝ }
+    ensures named { λ _. ⌜ Rows-hold-names ⌝ }
+    ensures made { λ _. ⌜ Files-make-books-and-networks ⌝ }
 {
     let loaded = tally(file)?;
     let counts = loaded.counts;

@@ -3,6 +3,7 @@ use Rattle.std.proofs.shelf.Results.{err-from-errBy}
 use Rattle.formats.specs.NetworkFile.{network}
 use Rattle.formats.proofs.NetworkFile.{network-lawful}
 use Rattle.formats.proofs.BothWays.{writes-back}
+use Rattle.files.proofs.Making.{rows-hold-names, files-make}
 use Rattle.files.proofs.Passes.{load-fault, load-short, load-done}
 use Rattle.files.proofs.loading.load.Needs as need
 
@@ -15,6 +16,8 @@ returns-in-Break-loaded c =
           (record { names = a .names .now; walks = a .walks .now; timetables = a .timetables .now; connections = a .connections .now; roads = a .roads .now; points = a .points .now; arcs = a .arcs .now })
           (sym (c .in-Break-loaded .was tt) ∙ c .tally .ensures);
       back = writes-back network network-lawful;
+      named = rows-hold-names;
+      made = files-make;
     })
 
 pub returns-then-not-fits : need.returns-then-not-fits
@@ -24,6 +27,8 @@ returns-then-not-fits c =
           (record { names = a .names .now; walks = a .walks .now; timetables = a .timetables .now; connections = a .connections .now; roads = a .roads .now; points = a .points .now; arcs = a .arcs .now })
           (c .in-Continue-loaded .ensures tt) (sym (c .fit-fits .ensures) ∙ c .if-not-fits .taken);
       back = writes-back network network-lawful;
+      named = rows-hold-names;
+      made = files-make;
     }
 
 pub returns : need.returns
@@ -33,4 +38,6 @@ returns c =
           (record { names = a .names .now; walks = a .walks .now; timetables = a .timetables .now; connections = a .connections .now; roads = a .roads .now; points = a .points .now; arcs = a .arcs .now })
           _ (c .in-Continue-loaded .ensures tt) (sym (c .fit-fits .ensures) ∙ c .if-not-fits .left) (c .fill .ensures);
       back = writes-back network network-lawful;
+      named = rows-hold-names;
+      made = files-make;
     }
