@@ -1,5 +1,6 @@
 -- The counts of a file's records.
 use mathlib.Core.Bool.{cond}
+use mathlib.Core.List.{List, [], _∷_}
 use Prim.Native.Nat.{ℕ, _+_, _≤_}
 use lib.Dec.{eqb}
 use Rattle.records.specs.Stream.{Rec, a-stop, a-walk, a-connection, a-point, an-arc}
@@ -31,6 +32,11 @@ counted n (a-point k p) = record {
   arcs = n .arcs;
 }
 counted n (an-arc a) = record { stops = n .stops; walks = n .walks; timetables = n .timetables; connections = n .connections; roads = n .roads; points = n .points; arcs = n .arcs + 1 }
+
+-- the counts with the records of a list
+unfoldable pub countedAll : Counts → List Rec → Counts
+countedAll n [] = n
+countedAll n (r ∷ rs) = countedAll (counted n r) rs
 
 -- no count is above a limit
 pub record AtMost (limit : ℕ) (n : Counts) : Type 0 where

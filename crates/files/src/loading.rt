@@ -1,7 +1,15 @@
 //! Loading a network file into tables.
 ghost use mathlib.Core.Path.{_≡_};
 ghost use lib.ListN.{set};
+ghost use Rattle.formats.specs.NetworkFile.{network};
+ghost use Rattle.formats.specs.Theorems.{Writes-back};
+ghost use Rattle.records.specs.Records.{meant};
+ghost use Rattle.files.specs.Filling.{Short, Bounded, stored};
+ghost use Rattle.files.specs.Making.{Rows-hold-names, Files-make-books-and-networks};
+ghost use Rattle.files.specs.Progress.{filling, Fills};
+ghost use Rattle.files.specs.Loading.{Accepted, loads, measured};
 use crate::rows::Counts;
+use crate::rows::Progress;
 use model::Arc;
 use model::Connection;
 use model::Point;
@@ -10,6 +18,7 @@ use model::Span;
 use records::Record;
 use records::Records;
 use wire::Fault;
+use wire::encoded_len;
 
 /// What a loaded network file holds: the rows that it fills, and the place after its last record.
 #[derive(Clone, Copy, Drop)]
@@ -30,17 +39,24 @@ pub fn load(
     roads: &mut [Span],
     points: &mut [Point],
     arcs: &mut [Arc],
-) -> Result<Loaded, Fault> {
+) -> Result<Loaded, Fault>
+    ensures loads { λ r. ⌜ (r, record { names = now (names .exit); walks = now (walks .exit); timetables = now (timetables .exit); connections = now (connections .exit); roads = now (roads .exit); points = now (points .exit); arcs = now (arcs .exit) }) ≡ loads (network .read (now (file .entry)) 0) (record { names = now (names .entry); walks = now (walks .entry); timetables = now (timetables .entry); connections = now (connections .entry); roads = now (roads .entry); points = now (points .entry); arcs = now (arcs .entry) }) ⌝ }
+    ensures back { λ _. ⌜ Writes-back network ⌝ }
+    ensures named { λ _. ⌜ Rows-hold-names ⌝ }
+    ensures made { λ _. ⌜ Files-make-books-and-networks ⌝ }
+{
     let loaded = tally(file)?;
     let counts = loaded.counts;
-    if names.len() < counts.stops
-        || walks.len() < counts.walks
-        || timetables.len() < counts.timetables
-        || connections.len() < counts.connections
-        || roads.len() < counts.roads
-        || points.len() < counts.points
-        || arcs.len() < counts.arcs
-    {
+    let fits = counts.fit(
+        names.len(),
+        walks.len(),
+        timetables.len(),
+        connections.len(),
+        roads.len(),
+        points.len(),
+        arcs.len(),
+    );
+    if !fits {
         return Err(Fault {
             refusal: Refusal::FileTablesShort,
             at: loaded.end,
@@ -48,6 +64,7 @@ pub fn load(
     }
     fill(
         file,
+        counts.stops,
         names,
         walks,
         timetables,
@@ -59,18 +76,12 @@ pub fn load(
     Ok(loaded)
 }
 
-// Counts the records of a file, which is the first fault of the file where it has one.
-fn tally(file: &[u8]) -> Result<Loaded, Fault> {
+// The counts of a file's records, or the first fault of the file.
+fn tally(file: &[u8]) -> Result<Loaded, Fault>
+    ensures { λ r. ⌜ r ≡ measured (network .read (now (file .entry)) 0) ⌝ }
+{
     let mut records = Records::new(file);
-    let mut counts = Counts {
-        stops: 0,
-        walks: 0,
-        timetables: 0,
-        connections: 0,
-        roads: 0,
-        points: 0,
-        arcs: 0,
-    };
+    let mut counts = Counts::none();
     while let Some(item) = records.next() {
         counts = counts.with(item?);
     }
@@ -80,9 +91,10 @@ fn tally(file: &[u8]) -> Result<Loaded, Fault> {
     })
 }
 
-// Puts the records of a file into the tables.
+// Puts the records of a file that is accepted into tables that have room for them.
 fn fill(
     file: &[u8],
+    stops: usize,
     names: &mut [Span],
     walks: &mut [u32],
     timetables: &mut [Span],
@@ -90,69 +102,84 @@ fn fill(
     roads: &mut [Span],
     points: &mut [Point],
     arcs: &mut [Arc],
-) {
+)
+    requires { ⌜ Accepted (now file) stops ⌝ }
+    ensures { λ _. ⌜ Fills (now (file .entry)) stops (record { names = now (names .entry); walks = now (walks .entry); timetables = now (timetables .entry); connections = now (connections .entry); roads = now (roads .entry); points = now (points .entry); arcs = now (arcs .entry) }) (record { names = now (names .exit); walks = now (walks .exit); timetables = now (timetables .exit); connections = now (connections .exit); roads = now (roads .exit); points = now (points .exit); arcs = now (arcs .exit) }) ⌝ }
+{
     let mut records = Records::new(file);
-    let mut counts = Counts {
-        stops: 0,
-        walks: 0,
-        timetables: 0,
-        connections: 0,
-        roads: 0,
-        points: 0,
-        arcs: 0,
-    };
-    let mut row = 0;
-    let mut list = Span { start: 0, len: 0 };
-    while let Some(Ok(item)) = records.next() {
-        let next = counts.with(item);
-        match item {
-            Record::Stop(name) => {
-                let start = records.place().saturating_sub(name.len());
-                store(
+    let mut at = Progress::start(encoded_len(1) + encoded_len(stops as u32));
+    while let Some(found) = records.next() {
+        match found {
+            Ok(item) => {
+                at = store(
+                    item,
+                    at,
                     names,
-                    counts.stops,
-                    Span {
-                        start,
-                        len: name.len(),
-                    },
+                    walks,
+                    timetables,
+                    connections,
+                    roads,
+                    points,
+                    arcs,
                 );
             }
-            Record::Walk(seconds) => store(walks, counts.walks, seconds),
-            Record::Connection {
-                service: _,
-                connection,
-            } => {
-                if counts.timetables < next.timetables {
-                    row = counts.timetables;
-                    list = Span {
-                        start: counts.connections,
-                        len: 0,
-                    };
-                }
-                list.len += 1;
-                store(timetables, row, list);
-                store(connections, counts.connections, connection);
-            }
-            Record::Point { service: _, point } => {
-                if counts.roads < next.roads {
-                    row = counts.roads;
-                    list = Span {
-                        start: counts.points,
-                        len: 0,
-                    };
-                }
-                list.len += 1;
-                store(roads, row, list);
-                store(points, counts.points, point);
-            }
-            Record::Arc(arc) => store(arcs, counts.arcs, arc),
+            Err(_) => return,
         }
-        counts = next;
     }
 }
 
-// Puts a row into a table at a place that it has.
-fn store<T: Copy + Drop>(table: &mut [T], at: usize, row: T)
+// Puts one record into its table.
+fn store(
+    item: Record,
+    at: Progress,
+    names: &mut [Span],
+    walks: &mut [u32],
+    timetables: &mut [Span],
+    connections: &mut [Connection],
+    roads: &mut [Span],
+    points: &mut [Point],
+    arcs: &mut [Arc],
+) -> Progress
+    requires bounded { ⌜ Bounded 4294967295 4294967295 (filling at (now names) (now walks) (now timetables) (now connections) (now roads) (now points) (now arcs)) ⌝ }
+    requires short { ⌜ Short (meant item) ⌝ }
+    ensures { λ r. ⌜ filling r (now (names .exit)) (now (walks .exit)) (now (timetables .exit)) (now (connections .exit)) (now (roads .exit)) (now (points .exit)) (now (arcs .exit)) ≡ stored (filling at (now (names .entry)) (now (walks .entry)) (now (timetables .entry)) (now (connections .entry)) (now (roads .entry)) (now (points .entry)) (now (arcs .entry))) (meant (item .entry)) ⌝ }
+{
+    let counts = at.counts;
+    let mut next = at;
+    next.counts = counts.with(item);
+    match item {
+        Record::Stop(name) => {
+            let len = name.len();
+            let start = at.end + encoded_len(len as u32);
+            write(names, counts.stops, Span { start, len });
+            next.end = start + len;
+        }
+        Record::Walk(seconds) => write(walks, counts.walks, seconds),
+        Record::Connection {
+            service,
+            connection,
+        } => {
+            let new = service as usize == counts.walks + counts.timetables;
+            let list = at.timetable
+                .extended(new, counts.timetables, counts.connections);
+            write(timetables, list.row, list.span);
+            write(connections, counts.connections, connection);
+            next.timetable = list;
+        }
+        Record::Point { service, point } => {
+            let new = service as usize == counts.walks + counts.timetables + counts.roads;
+            let list = at.road.extended(new, counts.roads, counts.points);
+            write(roads, list.row, list.span);
+            write(points, counts.points, point);
+            next.road = list;
+        }
+        Record::Arc(arc) => write(arcs, counts.arcs, arc),
+    }
+    next
+}
+
+// Puts a row into a table at a place that it has; a place that it does not have is passed over.
+fn write<T: Copy + Drop>(table: &mut [T], at: usize, row: T)
     ensures { λ _. ⌜ now (table .exit) ≡ set (now (table .entry)) at row ⌝ }
 {
     if at < table.len() {

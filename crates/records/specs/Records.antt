@@ -1,4 +1,5 @@
 -- What a reader of records has yet to hand out.
+use mathlib.Core.Path.{_≡_}
 use mathlib.Core.List.{List, [], _∷_}
 use Prim.Native.Nat.{ℕ, _+_, _*_}
 use Rattle.std.specs.declared.option.Option.{Option}
@@ -54,6 +55,16 @@ follows None t p = ([], Ok p)
 abbrev pub goes : Result (Unit {0}) Fault → Told → Told
 goes (Ok _) t = t
 goes (Err f) t = ([], Err f)
+
+-- at a fault the records are over
+abbrev pub OverAt : {A : Type 0} → Result A Fault → Section → Type 0
+OverAt (Ok _) s = Unit {0}
+OverAt (Err f) s = s ≡ End
+
+-- they are over after the last record and after a fault: from then on there is none
+abbrev pub Over : Option (Result Record Fault) → Section → Type 0
+Over (Some r) s = OverAt r s
+Over None s = s ≡ End
 
 -- how many more calls can hand out something, at most: a list of services and the step to it count too
 abbrev pub size : Section → ℕ

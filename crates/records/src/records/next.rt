@@ -8,7 +8,7 @@ ghost use Rattle.wire.specs.Grammar.{andThen};
 ghost use Rattle.formats.specs.NetworkFile.{network};
 ghost use Rattle.records.specs.declared.records.Section.the-variants.{Front, Stops, Walks, Timetables, Connections, Roads, Points, Arcs};
 ghost use Rattle.records.specs.Stream.{told, collected, recordsOf};
-ghost use Rattle.records.specs.Records.{rest, handed, follows, goes, size};
+ghost use Rattle.records.specs.Records.{rest, handed, follows, goes, size, OverAt, Over};
 use crate::fields::arc;
 use crate::fields::connection;
 use crate::fields::point;
@@ -48,6 +48,7 @@ impl<'a> Records<'a> {
     pub fn next(&mut self) -> Option<Result<Record<'a>, Fault>>
         ensures says { λ r. ⌜ rest (now (self .entry)) ≡ follows r (rest (now (self .exit))) (now (self .exit) .reader .at) ⌝ }
         ensures falls { λ r. ⌜ (isSome r ≡ true → size (now (self .exit) .section) < size (now (self .entry) .section)) ⌝ }
+        ensures over { λ r. ⌜ Over r (now (self .exit) .section) ⌝ }
     {
         loop {
             match self.section {
@@ -120,6 +121,7 @@ impl<'a> Records<'a> {
         requires { ⌜ now self .section ≡ Front ⌝ }
         ensures says { λ r. ⌜ rest (now (self .entry)) ≡ goes r (rest (now (self .exit))) ⌝ }
         ensures falls { λ r. ⌜ size (now (self .exit) .section) < size (now (self .entry) .section) ⌝ }
+        ensures over { λ r. ⌜ OverAt r (now (self .exit) .section) ⌝ }
     {
         self.section = Section::End;
         self.reader.exactly(1, Refusal::OtherForm)?;
@@ -134,6 +136,7 @@ impl<'a> Records<'a> {
         requires { ⌜ now self .section ≡ Stops 0 ⌝ }
         ensures says { λ r. ⌜ rest (now (self .entry)) ≡ goes r (rest (now (self .exit))) ⌝ }
         ensures falls { λ r. ⌜ size (now (self .exit) .section) < size (now (self .entry) .section) ⌝ }
+        ensures over { λ r. ⌜ OverAt r (now (self .exit) .section) ⌝ }
     {
         self.section = Section::End;
         let count = self.reader.number_in(0, 4096, Refusal::ServiceField)?;
@@ -147,6 +150,7 @@ impl<'a> Records<'a> {
         requires { ⌜ now self .section ≡ Walks 0 ⌝ }
         ensures says { λ r. ⌜ rest (now (self .entry)) ≡ goes r (rest (now (self .exit))) ⌝ }
         ensures falls { λ r. ⌜ size (now (self .exit) .section) < size (now (self .entry) .section) ⌝ }
+        ensures over { λ r. ⌜ OverAt r (now (self .exit) .section) ⌝ }
     {
         self.section = Section::End;
         let count = self.reader.number_in(0, 4096, Refusal::ServiceField)?;
@@ -160,6 +164,7 @@ impl<'a> Records<'a> {
         requires { ⌜ now self .section ≡ Timetables left ⌝ }
         ensures says { λ r. ⌜ rest (now (self .entry)) ≡ goes r (rest (now (self .exit))) ⌝ }
         ensures falls { λ r. ⌜ size (now (self .exit) .section) < size (now (self .entry) .section) ⌝ }
+        ensures over { λ r. ⌜ OverAt r (now (self .exit) .section) ⌝ }
     {
         self.section = Section::End;
         if left == 0 {
@@ -183,6 +188,7 @@ impl<'a> Records<'a> {
         requires { ⌜ now self .section ≡ Roads left ⌝ }
         ensures says { λ r. ⌜ rest (now (self .entry)) ≡ goes r (rest (now (self .exit))) ⌝ }
         ensures falls { λ r. ⌜ size (now (self .exit) .section) < size (now (self .entry) .section) ⌝ }
+        ensures over { λ r. ⌜ OverAt r (now (self .exit) .section) ⌝ }
     {
         self.section = Section::End;
         if left == 0 {
@@ -209,6 +215,7 @@ impl<'a> Records<'a> {
         requires among { ⌜ now self .section ≡ Stops left ⌝ }
         ensures says { λ r. ⌜ rest (now (self .entry)) ≡ handed r (rest (now (self .exit))) ⌝ }
         ensures falls { λ r. ⌜ size (now (self .exit) .section) < size (now (self .entry) .section) ⌝ }
+        ensures over { λ r. ⌜ OverAt r (now (self .exit) .section) ⌝ }
     {
         let stop = self.reader.name(1, 40, Refusal::NameLength);
         match stop {
@@ -229,6 +236,7 @@ impl<'a> Records<'a> {
         requires among { ⌜ now self .section ≡ Walks left ⌝ }
         ensures says { λ r. ⌜ rest (now (self .entry)) ≡ handed r (rest (now (self .exit))) ⌝ }
         ensures falls { λ r. ⌜ size (now (self .exit) .section) < size (now (self .entry) .section) ⌝ }
+        ensures over { λ r. ⌜ OverAt r (now (self .exit) .section) ⌝ }
     {
         let walk = self.reader.number_in(0, 86_400, Refusal::ServiceField);
         match walk {
@@ -255,6 +263,7 @@ impl<'a> Records<'a> {
         requires among { ⌜ now self .section ≡ Connections service lists left last ⌝ }
         ensures says { λ r. ⌜ rest (now (self .entry)) ≡ handed r (rest (now (self .exit))) ⌝ }
         ensures falls { λ r. ⌜ size (now (self .exit) .section) < size (now (self .entry) .section) ⌝ }
+        ensures over { λ r. ⌜ OverAt r (now (self .exit) .section) ⌝ }
     {
         let connection = connection(&mut self.reader, last);
         match connection {
@@ -289,6 +298,7 @@ impl<'a> Records<'a> {
         requires among { ⌜ now self .section ≡ Points service lists left before ⌝ }
         ensures says { λ r. ⌜ rest (now (self .entry)) ≡ handed r (rest (now (self .exit))) ⌝ }
         ensures falls { λ r. ⌜ size (now (self .exit) .section) < size (now (self .entry) .section) ⌝ }
+        ensures over { λ r. ⌜ OverAt r (now (self .exit) .section) ⌝ }
     {
         let point = point(&mut self.reader, before);
         match point {
@@ -314,6 +324,7 @@ impl<'a> Records<'a> {
         requires among { ⌜ now self .section ≡ Arcs left last ⌝ }
         ensures says { λ r. ⌜ rest (now (self .entry)) ≡ handed r (rest (now (self .exit))) ⌝ }
         ensures falls { λ r. ⌜ size (now (self .exit) .section) < size (now (self .entry) .section) ⌝ }
+        ensures over { λ r. ⌜ OverAt r (now (self .exit) .section) ⌝ }
     {
         let services = self.walks + self.timetables + self.roads;
         let arc = arc(&mut self.reader, self.stops, services, last);

@@ -10,9 +10,9 @@ use Rattle.records.proofs.records.Records.point.Needs as need
 pub returns-in-Ok : need.returns-in-Ok
 returns-in-Ok c =
     let r = c .args .self .now in
-    record { says = at-section r (c .pre .among) ∙ streamed-ok point passed (a-point (c .args .service)) (listed pointCount point passed None a-point (arcRun (r .stops) (r .walks + r .timetables + r .roads)) (r .walks + r .timetables + r .roads) (c .args .lists)) (c .args .before) (c .args .left) (c .in-Ok .ensures tt) refl (c .pre .some); falls = rw (c .pre .among) (omega arith) }
+    record { says = at-section r (c .pre .among) ∙ streamed-ok point passed (a-point (c .args .service)) (listed pointCount point passed None a-point (arcRun (r .stops) (r .walks + r .timetables + r .roads)) (r .walks + r .timetables + r .roads) (c .args .lists)) (c .args .before) (c .args .left) (c .in-Ok .ensures tt) refl (c .pre .some); falls = rw (c .pre .among) (omega arith); over = tt }
 
 pub returns-in-Err : need.returns-in-Err
 returns-in-Err c =
     let r = c .args .self .now in
-    record { says = at-section r (c .pre .among) ∙ streamed-err point passed (a-point (c .args .service)) (listed pointCount point passed None a-point (arcRun (r .stops) (r .walks + r .timetables + r .roads)) (r .walks + r .timetables + r .roads) (c .args .lists)) (c .args .before) (c .args .left) (c .in-Err .ensures tt) refl (c .pre .some); falls = rw (c .pre .among) (omega arith) }
+    record { says = at-section r (c .pre .among) ∙ streamed-err point passed (a-point (c .args .service)) (listed pointCount point passed None a-point (arcRun (r .stops) (r .walks + r .timetables + r .roads)) (r .walks + r .timetables + r .roads) (c .args .lists)) (c .args .before) (c .args .left) (c .in-Err .ensures tt) refl (c .pre .some); falls = rw (c .pre .among) (omega arith); over = refl }

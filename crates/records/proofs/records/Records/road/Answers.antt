@@ -1,4 +1,4 @@
-use mathlib.Core.Path.{_∙_}
+use mathlib.Core.Path.{refl, _∙_}
 use Prim.Native.Nat.{_+_}
 use native.Mathlib.Omega.{arith}
 use lib.Dec.{lit<}
@@ -18,6 +18,7 @@ returns-in-Break-count c =
     rw (p .1, p .2) (record {
       says = at-section r (c .pre) ∙ listed-none pointCount point passed None a-point (arcRun (r .stops) (r .walks + r .timetables + r .roads)) (r .walks + r .timetables + r .roads) (c .args .left) _ _ (omega arith) ∙ told-err (λ bs n q. streamed (arc (r .stops) (r .walks + r .timetables + r .roads)) left an-arc ended 0 n bs q) (c .number-in .ensures) (c .in-Break-count .was tt);
       falls = rw (c .pre) (omega arith);
+      over = refl;
     })
 
 pub returns-in-Break-count-2 : need.returns-in-Break-count-2
@@ -27,6 +28,7 @@ returns-in-Break-count-2 c =
     rw (p .1, p .2) (record {
       says = at-section r (c .pre) ∙ listed-err pointCount point passed None a-point (arcRun (r .stops) (r .walks + r .timetables + r .roads)) (r .walks + r .timetables + r .roads) (c .args .left) (c .number-in-else-left-eq0 .ensures) (c .in-Break-count-2 .was tt) (omega arith);
       falls = rw (c .pre) (omega arith);
+      over = refl;
     })
 
 pub returns-in-Continue-count : need.returns-in-Continue-count
@@ -36,6 +38,7 @@ returns-in-Continue-count c =
     record {
       says = at-section r (c .pre) ∙ listed-none pointCount point passed None a-point (arcRun (r .stops) (r .walks + r .timetables + r .roads)) (r .walks + r .timetables + r .roads) (c .args .left) _ _ (omega arith) ∙ told-ok (λ bs n q. streamed (arc (r .stops) (r .walks + r .timetables + r .roads)) left an-arc ended 0 n bs q) (c .number-in .ensures) (c .in-Continue-count .was tt);
       falls = rw (c .pre) (omega arith);
+      over = tt;
     }
 
 pub returns-in-Continue-count-2 : need.returns-in-Continue-count-2
@@ -45,4 +48,5 @@ returns-in-Continue-count-2 c =
     record {
       says = rw (c .saturating-sub .ensures) (at-section r (c .pre) ∙ listed-ok pointCount point passed None a-point (arcRun (r .stops) (r .walks + r .timetables + r .roads)) (r .walks + r .timetables + r .roads) (c .args .left) (c .number-in-else-left-eq0 .ensures) (c .in-Continue-count-2 .was tt) (omega arith));
       falls = rw (c .pre) (omega arith);
+      over = tt;
     }
