@@ -381,6 +381,22 @@ pub turn-here : (w : World) → LawfulWorld w → (o : Place) (t : ℕ) (p : Pla
 turn-here w law o t p k T rest least =
     stays-below w law o t p (settle k) (length (w .arcs)) (put T p (settle k)) (settled-now w o t p k T rest least) p (settle k) (put-here T p (settle k)) refl
 
+-- what is settled after a turn was settled before it, or is the turn's own place
+was-below : (w : World) (p : Place) (k : Label) (n : ℕ) (T : Table) (r : Place) (l : Label) → relax-below w p k n T r ≡ Some l → l .settled ≡ true → T r ≡ Some l
+was-below w p k zero T r l e s = e
+was-below w p k (suc n) T r l e s =
+    elim (accept-is (relax-below w p k n T) (offer w p k n) .from r l e) [
+      | inl g ↦ was-below w p k n T r l g s
+      | inr g ↦ absurd (both-ways (l .settled) (offer-rides w p k n (record { at = r; label = l }) (g .0) .settled) s)
+    ]
+
+pub turn-was : (w : World) (p : Place) (k : Label) (T : Table) (r : Place) (l : Label) → turn w p k T r ≡ Some l → l .settled ≡ true → (r ≡ p) ⊎ (T r ≡ Some l)
+turn-was w p k T r l e s =
+    elim (put-cases T p (settle k) r l (was-below w p (settle k) (length (w .arcs)) (put T p (settle k)) r l e s)) [
+      | inl g ↦ inl (g .0)
+      | inr g ↦ inr (g .1)
+    ]
+
 -- a bound on the legs
 pub legs-below : (w : World) (p : Place) (k : Label) (n b : ℕ) (T : Table) → suc (k .legs) ≤ b → ((q : Place) (l : Label) → T q ≡ Some l → l .legs ≤ b)
     → (q : Place) (l : Label) → relax-below w p k n T q ≡ Some l → l .legs ≤ b

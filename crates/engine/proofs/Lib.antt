@@ -1,0 +1,4 @@
+pub mod Agendas
+pub mod Grounds
+pub mod Unserved
+pub mod Passed

@@ -1,0 +1,2 @@
+pub mod Before
+pub mod Agenda
