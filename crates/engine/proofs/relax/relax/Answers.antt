@@ -35,7 +35,7 @@ accept-requires g c κs =
     let e : c .states-states .result ≡ k = c .states-states .ensures in
     let n : length (c .loop-i .labels) ≡ length (c .args .labels .now) = c .loop-i .kept .labels in
     let size : length (c .args .labels .now) ≡ c .args .network .stops * k = c .pre .size .0 in
-    let few : length (c .args .labels .now) ≤ 66560 = rows-few (c .args .network .stops) k (length (c .args .labels .now)) (c .args .network .counted .1) (law .few) size in
+    let few : length (c .args .labels .now) ≤ 66560 = rows-few (c .args .network .stops) k (length (c .args .labels .now)) (c .args .network .counted .0 .1) (law .few) size in
     let room : Room (c .arcs-arcs .result .now) k (length (c .args .labels .now))
     = room-of (c .args .network .arcs .now) (c .arcs-arcs .result .now) (c .args .network .stops) k (length (c .args .labels .now)) (c .arcs-arcs .ensures) (c .args .network .fit) size in
     let y = offer-room W (c .args .from) (c .args .label) (c .loop-i .i) (length (c .args .labels .now)) (c .in-Some .made) (law .closed) room (sym (c .in-Some .ensures tt)) in

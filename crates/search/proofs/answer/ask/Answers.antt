@@ -65,7 +65,7 @@ trace-requires g c κs =
     let legs = legs-there W law (c .args .enquiry) T (c .in-Some .state) (c .in-Some .label) end in
     let n : c .stops .result * c .states-states .result ≡ c .args .network .stops * k = λ i. c .stops .ensures i * c .states-states .ensures i in
     let few : c .stops .result * c .states-states .result ≤ 66560
-    = rows-few (c .args .network .stops) k (c .stops .result * c .states-states .result) (c .args .network .counted .1) (g .R·Rule .lawful (c .args .rule .now) .few) n in
+    = rows-few (c .args .network .stops) k (c .stops .result * c .states-states .result) (c .args .network .counted .0 .1) (g .R·Rule .lawful (c .args .rule .now) .few) n in
     let cut = length-take (c .stops .result * c .states-states .result) (c .search .last .labels) in
     record {
       size = (omega arith, c .if-slip-label .left);
