@@ -4,14 +4,14 @@ ghost use Rattle.books.specs.Faults.{refusalOf};
 use model::Refusal;
 
 /// Which number of a row is at fault: the second at which one sets out, or the second of arrival.
-#[derive(Clone, Copy, Drop, PartialEq, Eq)]
+#[derive(Clone, Copy, Drop)]
 pub enum Field {
     Departure,
     Arrival,
 }
 
 /// The first fault of a book's tables, and where it is: services and the rows of a list are numbered from 0.
-#[derive(Clone, Copy, Drop, PartialEq, Eq)]
+#[derive(Clone, Copy, Drop)]
 pub enum BookFault {
     /// More than 4,096 services.
     TooManyServices,

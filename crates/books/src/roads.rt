@@ -40,9 +40,10 @@ fn between(from: Point, to: Point, coming: u32) -> u32
     ensures { λ r. ⌜ r ≡ between from to coming ⌝ }
 {
     let start = from.second + from.travel;
-    let end = to.second + to.travel;
-    let part = (end - start) as u64 * (coming - from.second) as u64
-        / (to.second - from.second) as u64;
+    let rise = (to.second + to.travel - start) as u64;
+    let gone = (coming - from.second) as u64;
+    let whole = (to.second - from.second) as u64;
+    let part = rise * gone / whole;
     start + part as u32
 }
 

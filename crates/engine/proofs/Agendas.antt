@@ -19,6 +19,7 @@ use Rattle.labels.specs.declared.label.Label.{Label}
 use Rattle.labels.specs.Table.{better, settle}
 use Rattle.labels.specs.Rows.{Rows, Waits, Foremost, improves}
 use Rattle.labels.proofs.Tables.{better-true}
+use Rattle.labels.proofs.Searching.{row-below}
 use Rattle.queue.specs.declared.queue.Queue.{Queue}
 use Rattle.queue.specs.Contents.{contents, capacity, Ready, Took, Put, FirstOut}
 use Rattle.queue.specs.Lex.{lex}
@@ -45,6 +46,9 @@ not-lex a b c x y z h = grind (arith, tells)
 module _ (rows : Rows) (q q′ : Queue Entry) (e : Entry) (agenda : Agenda rows q) (took : Took (contents q) e (contents q′)) (ready : Ready entryBefore q′) where
   pub taken-known : Known rows e
   taken-known = all-took (Known rows) (contents q) e (contents q′) took (agenda .known) .0
+
+  pub taken-within : e .place < length rows
+  taken-within = let k = taken-known in row-below rows (e .place) (k .label) (k .here)
 
   left : (r : ℕ) (l : Label) → Waits rows r l → (r ≡ e .place → ⊥) → Has (contents q′) (entry r l)
   left r l w other =

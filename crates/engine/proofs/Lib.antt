@@ -1,1 +1,4 @@
 pub mod Agendas
+pub mod Grounds
+pub mod Unserved
+pub mod Passed

@@ -3,10 +3,15 @@ use mathlib.Core.Path.{_≡_}
 use mathlib.Core.Bool.{Bool, true, false}
 use mathlib.Core.List.{List}
 use Prim.Native.Nat.{ℕ, _+_, _<_, _≤_}
-use lib.ListN.{length, getD, set}
+use lib.ListN.{length, getD, set, take}
 use Rattle.std.specs.declared.option.Option.{Option}
 use Rattle.std.specs.declared.option.Option.the-variants.{Some, None}
+use Rattle.std.specs.declared.result.Result.{Result}
+use Rattle.std.specs.declared.result.Result.the-variants.{Ok, Err}
 use Rattle.std.specs.shelf.Lists.{All, Has}
+use Rattle.model.specs.declared.enquiry.Enquiry.{Enquiry}
+use Rattle.model.specs.declared.refusal.Refusal.{Refusal}
+use Rattle.model.specs.Asking.{refusal-of, rows-needed}
 use Rattle.model.specs.declared.network.Place.{Place}
 use Rattle.model.specs.Trips.{World, place, Upto2}
 use Rattle.labels.specs.declared.label.Label.{Label}
@@ -15,7 +20,7 @@ use Rattle.queue.specs.declared.queue.Queue.{Queue}
 use Rattle.queue.specs.Contents.{contents, capacity, Ready}
 use Rattle.engine.specs.declared.entry.Entry.{Entry}
 use Rattle.engine.specs.Before.{entryBefore}
-use Rattle.labels.specs.Rows.{Rows, Waits, Foremost}
+use Rattle.labels.specs.Rows.{Rows, view, Waits, Foremost}
 
 -- the entry of a row's label
 abbrev pub entry : ℕ → Label → Entry
@@ -63,3 +68,11 @@ pub record Exhausted (w : World) (o : Place) (t target : ℕ) (T : Table) : Type
 abbrev pub Ended : World → Place → ℕ → ℕ → Table → Option (ℕ × Label) → Type 0
 Ended w o t target T None = Exhausted w o t target T
 Ended w o t target T (Some x) = Stopped w o t target T (x .0) (x .1)
+
+-- a search of an enquiry: refused by the tests, with both tables untouched; past them how the search ends, and the label table it leaves,
+-- whose first rows are one for each stop and state
+pub record Searched (stops count : ℕ) (w : World) (enquiry : Enquiry) (labels labels′ : Rows) (slots slots′ : List Entry) (r : Result (Option (ℕ × Label)) Refusal) : Type 0 where
+  pub refused : (f : Refusal) → refusal-of stops count w enquiry (length labels) (length slots) ≡ Some f → (r ≡ Err f) × (labels′ ≡ labels) × (slots′ ≡ slots)
+  pub searched : refusal-of stops count w enquiry (length labels) (length slots) ≡ None
+      → (x : Option (ℕ × Label)) × (r ≡ Ok x)
+      × Ended w (place (enquiry .start) 0) (enquiry .second) (enquiry .target) (view (w .states) (take (rows-needed stops w) labels′)) x

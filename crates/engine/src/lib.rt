@@ -2,8 +2,10 @@
 mod begin;
 mod entry;
 mod next;
+mod refusal;
 mod relax;
-mod search;
+mod turns;
 
 pub use entry::Entry;
 pub use entry::EntryRanked;
+pub use turns::search;

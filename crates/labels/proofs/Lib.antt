@@ -6,3 +6,5 @@ pub mod Offers
 pub mod Relaxing
 pub mod Counting
 pub mod Searching
+pub mod Tracing
+pub mod Journeys

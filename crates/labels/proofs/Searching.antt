@@ -220,6 +220,13 @@ begun-legs k rows o t e q l h =
       | inr x ↦ absurd (not-none l (x .1))
     ]
 
+pub begun-unmet : (w : World) (target : ℕ) (o : Place) (t : ℕ) → Unmet w target (begun o t)
+begun-unmet w target o t q l h s ends =
+    elim (put-cases (λ _. None) o (record { second = t; legs = 0; arc = 0; state = 0; settled = false }) q l h) [
+      | inl x ↦ both-ways (l .settled) (ap Label.settled (x .1)) s
+      | inr x ↦ not-none l (x .1)
+    ]
+
 pub legs-small : (k : ℕ) (rows : Rows) (r : ℕ) (l : Label) → 0 < k → length rows < 2 ^ 31 → LegsBound k rows → getD rows r None ≡ Some l → l .legs < 2 ^ 31
 legs-small k rows r l pos small legs e =
     let a : l .legs ≤ settled-count rows = legs (place-of k r) l (view-row k rows r pos ∙ e) in

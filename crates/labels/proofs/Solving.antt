@@ -301,10 +301,13 @@ module _ (w : World) (law : LawfulWorld w) (o : Place) (t : ℕ) (T : Table) (re
             | inr z ↦
                 let u : Upto2 (l .second) (l .legs) (z .label .second) (z .label .legs) = least .least (z .at) (z .label) (z .known) (z .unsettled) in
                 let a : z .label .second ≤ rank .second = z .no-later in
-                let n : z .label .legs ≤ length (rank .legs) = z .no-more in
-                (omega arith, λ h. omega arith, λ h k.
-                    let at : z .at ≡ r = z .only (omega arith) in
-                    tied r (z .label) (subst (λ (x : Place). T x ≡ Some (z .label)) at (z .known)) (z .unsettled) (ends .0 ∙ sym (end .0)) (omega arith) (omega arith))
+                let n : z .label .legs ≤ length (rank .legs) = z .no-more in (
+                  omega arith,
+                  λ h. omega arith,
+                  λ h k.
+                      let at : z .at ≡ r = z .only (omega arith) in
+                      tied r (z .label) (subst (λ (x : Place). T x ≡ Some (z .label)) at (z .known)) (z .unsettled) (ends .0 ∙ sym (end .0)) (omega arith) (omega arith),
+                )
           ];
     }
 

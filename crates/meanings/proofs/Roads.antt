@@ -1,20 +1,23 @@
 -- A road book is a book, and its answers point by point.
 use mathlib.Core.Path.{_≡_, refl, sym, ap, subst, _∙_}
 use mathlib.Core.Logic.{⊎-elim}
+use mathlib.Core.Bool.{cond}
 use mathlib.Core.List.{List, [], _∷_}
 use Prim.Native.Nat.{ℕ, zero, suc, _+_, _-_, _*_, _/_, _≤_, _<_}
 use native.Mathlib.Nat.{mul-le-mul-left, mul-le-mul-right, div-mul-le-self, div-le-of-le-mul, le-trans, suc-add}
 use native.Mathlib.Omega.{arith}
+use lib.Dec.{leb, ltb}
 use lib.ListN.{length, getD, drop}
+use Rattle.std.specs.declared.option.Option.the-variants.{Some, None}
 use Rattle.std.proofs.shelf.Bits.{le-div}
-use Rattle.std.proofs.shelf.Tests.{lt-ltb, le-ltb, cases-lt}
+use Rattle.std.proofs.shelf.Tests.{lt-ltb, le-ltb, le-leb, lt-leb, cases-lt}
 use Rattle.std.proofs.shelf.Lists.{drop-more, drop-all}
 use Rattle.model.specs.Books.{LawfulBook}
 use Rattle.model.specs.declared.tables.Point.{Point}
 use Rattle.model.specs.declared.tables.Span.{Span}
 use Rattle.meanings.specs.Answers.{timely}
 use Rattle.meanings.specs.Spans.{most-services, service-rows, Each}
-use Rattle.meanings.specs.Roads.{reached, line, between, onward, ridden, driven, no-point, Rising, Steady}
+use Rattle.meanings.specs.Roads.{reached, line, between, passed, ahead, first-of, last-from, last-of, by-neighbours, ridden, driven, no-point, Rising, Steady}
 use Rattle.meanings.proofs.Laws.{listed-lawful, timely-fair}
 
 -- a quotient rises with what is divided
@@ -57,6 +60,11 @@ abbrev pub Ordered : Point → List Point → Type 0
 Ordered x [] = Unit {0}
 Ordered x (y ∷ ys) = (x .second < y .second) × (reached x ≤ reached y) × Ordered y ys
 
+-- the arrival from the second of a point on, step by step along the points after it
+abbrev pub onward : Point → List Point → ℕ → ℕ
+onward x [] t = t + x .travel
+onward x (y ∷ ys) t = cond (ltb t (y .second)) (between x y t) (onward y ys t)
+
 pub onward-before : (x y : Point) (ys : List Point) (t : ℕ) → t < y .second → onward x (y ∷ ys) t ≡ between x y t
 onward-before x y ys t h = rw (lt-ltb t (y .second) h)
 
@@ -98,27 +106,44 @@ ordered x (y ∷ ys) r s = (
       (λ j h. subst (λ (k : ℕ). reached (getD (y ∷ ys) j no-point) ≤ reached (getD (x ∷ y ∷ ys) k no-point)) (suc-add j 1) (s (suc j) (omega arith))),
 )
 
+-- before a point one has passed none after it
+none-passed : (x : Point) (xs : List Point) → Ordered x xs → (t : ℕ) → t < x .second → passed t xs ≡ []
+none-passed x [] o t h = refl
+none-passed x (y ∷ ys) o t h = let k : t < y .second = omega arith in rw (lt-leb (y .second) t k) (none-passed y ys (o .2) t k)
+
+-- the neighbours of a second, step by step
+by-steps : (x : Point) (xs : List Point) → Ordered x xs → (t : ℕ) → by-neighbours (Some (last-from x (passed t xs))) (first-of (ahead t xs)) t ≡ onward x xs t
+by-steps x [] o t = refl
+by-steps x (y ∷ ys) o t = ⊎-elim
+    (λ l. rw (lt-leb (y .second) t l, lt-ltb t (y .second) l, none-passed y ys (o .2) t l))
+    (λ l. rw (le-leb (y .second) t l, le-ltb t (y .second) l) (by-steps y ys (o .2) t))
+    (cases-lt t (y .second))
+
+ridden-before : (x : Point) (xs : List Point) → Ordered x xs → (t : ℕ) → t < x .second → ridden (x ∷ xs) t ≡ t + x .travel
+ridden-before x xs o t h = rw (lt-leb (x .second) t h, lt-ltb t (x .second) h, none-passed x xs o t h)
+
+ridden-after : (x : Point) (xs : List Point) → Ordered x xs → (t : ℕ) → x .second ≤ t → ridden (x ∷ xs) t ≡ onward x xs t
+ridden-after x xs o t h = rw (le-leb (x .second) t h, le-ltb t (x .second) h) (by-steps x xs o t)
+
 ridden-ahead : (ps : List Point) → Rising ps → Steady ps → (t : ℕ) → t ≤ ridden ps t
 ridden-ahead [] r s t = omega arith
-ridden-ahead (x ∷ xs) r s t = ⊎-elim
-    (λ l. rw (lt-ltb t (x .second) l) (omega arith))
-    (λ l. rw (le-ltb t (x .second) l) (onward-ahead x xs (ordered x xs r s) t l))
+ridden-ahead (x ∷ xs) r s t =
+    let o = ordered x xs r s in
+    ⊎-elim
+    (λ l. rw (ridden-before x xs o t l) (omega arith))
+    (λ l. rw (ridden-after x xs o t l) (onward-ahead x xs o t l))
     (cases-lt t (x .second))
-
-ridden-before : (x : Point) (xs : List Point) (t : ℕ) → t < x .second → ridden (x ∷ xs) t ≡ t + x .travel
-ridden-before x xs t h = rw (lt-ltb t (x .second) h)
-
-ridden-after : (x : Point) (xs : List Point) (t : ℕ) → x .second ≤ t → ridden (x ∷ xs) t ≡ onward x xs t
-ridden-after x xs t h = rw (le-ltb t (x .second) h)
 
 ridden-mono : (ps : List Point) → Rising ps → Steady ps → (t u : ℕ) → t ≤ u → ridden ps t ≤ ridden ps u
 ridden-mono [] r s t u h = h
-ridden-mono (x ∷ xs) r s t u h = ⊎-elim
-    (λ l. ⊎-elim (λ k. omega (arith, ridden-before x xs t k, ridden-before x xs u l)) (λ k. absurd (omega arith)) (cases-lt t (x .second)))
-    (λ l. ⊎-elim
-    (λ k. omega (arith, ridden-before x xs t k, ridden-after x xs u l, onward-low x xs (ordered x xs r s) u l))
-    (λ k. omega (arith, ridden-after x xs t k, ridden-after x xs u l, onward-mono x xs (ordered x xs r s) t u h))
-    (cases-lt t (x .second)))
+ridden-mono (x ∷ xs) r s t u h =
+    let o = ordered x xs r s in
+    ⊎-elim
+    (λ l. let k : t < x .second = omega arith in rw (ridden-before x xs o t k, ridden-before x xs o u l) (omega arith))
+    (λ l. rw (ridden-after x xs o u l) (⊎-elim
+    (λ k. rw (ridden-before x xs o t k) (let m = onward-low x xs o u l in omega arith))
+    (λ k. rw (ridden-after x xs o t k) (onward-mono x xs o t u h))
+    (cases-lt t (x .second))))
     (cases-lt u (x .second))
 
 pub driven-lawful : (ps : List Point) (spans : List Span) → length spans ≤ most-services → Each Rising ps spans → Each Steady ps spans → LawfulBook (length spans) (driven ps spans)
@@ -130,7 +155,11 @@ driven-lawful ps spans few rising steady =
 
 pub first : (ps : List Point) (t : ℕ) → 0 < length ps → Rising ps → Steady ps → getD ps 0 no-point .second ≤ t → Ordered (getD ps 0 no-point) (drop 1 ps) × (ridden ps t ≡ onward (getD ps 0 no-point) (drop 1 ps) t)
 first [] t some r s h = absurd (omega arith)
-first (x ∷ xs) t some r s h = (ordered x xs r s, rw (le-ltb t (x .second) h))
+first (x ∷ xs) t some r s h = let o = ordered x xs r s in (o, ridden-after x xs o t h)
+
+pub unstarted : (ps : List Point) (t : ℕ) → 0 < length ps → Rising ps → Steady ps → t < getD ps 0 no-point .second → ridden ps t ≡ t + getD ps 0 no-point .travel
+unstarted [] t some r s h = absurd (omega arith)
+unstarted (x ∷ xs) t some r s h = ridden-before x xs (ordered x xs r s) t h
 
 module _ (ps : List Point) (x : Point) (j : ℕ) (inside : j < length ps) where
   pub next : Ordered x (drop j ps) → (x .second < getD ps j no-point .second) × (reached x ≤ reached (getD ps j no-point)) × Ordered (getD ps j no-point) (drop (j + 1) ps)

@@ -19,7 +19,7 @@ use Rattle.model.specs.Clock.{horizon}
 use Rattle.model.specs.declared.tables.Connection.{Connection}
 use Rattle.model.specs.declared.tables.Span.{Span}
 use Rattle.meanings.specs.Spans.{most-services, service-rows, Each}
-use Rattle.meanings.specs.Timetables.{sooner, least, caught, arrivals, earliest, no-connection, timetabled, IsLeast, Rising, Forward, Timely}
+use Rattle.meanings.specs.Timetables.{sooner, least, caught, arrivals, earliest, no-connection, timetabled, Rising, Forward, Timely}
 use Rattle.meanings.proofs.Laws.{listed-lawful}
 
 -- no earlier than it departs, a connection arrives by the horizon
@@ -124,6 +124,14 @@ module _ (cs : List Connection) (up : Rising cs) (t m : ℕ) (inside : m < lengt
 
   pub caught-on : t ≤ getD cs m no-connection .departure → (k : ℕ) → m ≤ k → k < length cs → t ≤ getD cs k no-connection .departure
   caught-on h k le l = omega (arith, rises cs up m k le l)
+
+-- a second is the least arrival of the connections that depart at or after t: one of them attains it, and none is earlier;
+-- or there is none of those
+abbrev pub IsLeast : List Connection → ℕ → Option ℕ → Type 0
+IsLeast cs t None = (k : ℕ) → k < length cs → getD cs k no-connection .departure < t
+IsLeast cs t (Some a) =
+    ((k : ℕ) × (k < length cs) × (t ≤ getD cs k no-connection .departure) × (getD cs k no-connection .arrival ≡ a))
+    × ((k : ℕ) → k < length cs → t ≤ getD cs k no-connection .departure → a ≤ getD cs k no-connection .arrival)
 
 -- what is caught first is the least of all
 sooner-least : (c : Connection) (cs : List Connection) (t : ℕ) (o : Option ℕ) → t ≤ c .departure → IsLeast cs t o → IsLeast (c ∷ cs) t (sooner (c .arrival) o)

@@ -1,10 +1,11 @@
 -- A road book: each service has points, with the travel time at each, and arrivals between them in proportion.
 use Prim.Native.Nat.{ℕ, _+_, _-_, _*_, _/_, _≤_, _<_}
-use mathlib.Core.Bool.{cond}
 use mathlib.Core.List.{List, [], _∷_}
-use lib.Dec.{ltb}
+use lib.Dec.{leb, ltb}
 use lib.ListN.{length, getD}
+use Rattle.std.specs.shelf.Lists.{kept-by}
 use Rattle.std.specs.declared.option.Option.{Option}
+use Rattle.std.specs.declared.option.Option.the-variants.{Some, None}
 use Rattle.model.specs.Clock.{horizon}
 use Rattle.model.specs.declared.tables.Point.{Point}
 use Rattle.model.specs.declared.tables.Span.{Span}
@@ -23,16 +24,35 @@ line p P q Q t = P + (Q - P) * (t - p) / (q - p)
 abbrev pub between : Point → Point → ℕ → ℕ
 between x y t = line (x .second) (reached x) (y .second) (reached y) t
 
--- from the second of a point on, with the points after it: up to the next point between the two, from the last on its travel time
--- is added
-abbrev pub onward : Point → List Point → ℕ → ℕ
-onward x [] t = t + x .travel
-onward x (y ∷ ys) t = cond (ltb t (y .second)) (between x y t) (onward y ys t)
+-- the points at or before a second, and those after it
+abbrev pub passed : ℕ → List Point → List Point
+passed t ps = kept-by (λ x. leb (x .second) t) ps
 
--- the arrival by the points of a road: before the first point its travel time is added
+abbrev pub ahead : ℕ → List Point → List Point
+ahead t ps = kept-by (λ x. ltb t (x .second)) ps
+
+abbrev pub first-of : List Point → Option Point
+first-of [] = None
+first-of (x ∷ xs) = Some x
+
+abbrev pub last-from : Point → List Point → Point
+last-from x [] = x
+last-from x (y ∷ ys) = last-from y ys
+
+abbrev pub last-of : List Point → Option Point
+last-of [] = None
+last-of (x ∷ xs) = Some (last-from x xs)
+
+-- by the point before and the point after: where there is one of them only, its travel time is added
+abbrev pub by-neighbours : Option Point → Option Point → ℕ → ℕ
+by-neighbours (Some x) (Some y) t = between x y t
+by-neighbours (Some x) None t = t + x .travel
+by-neighbours None (Some y) t = t + y .travel
+by-neighbours None None t = t
+
+-- the arrival by the points of a road: by the last point at or before the coming, and the first one after it
 abbrev pub ridden : List Point → ℕ → ℕ
-ridden [] t = t
-ridden (x ∷ xs) t = cond (ltb t (x .second)) (t + x .travel) (onward x xs t)
+ridden ps t = by-neighbours (last-of (passed t ps)) (first-of (ahead t ps)) t
 
 -- what a road book answers
 abbrev pub driven : List Point → List Span → ℕ → ℕ → Option ℕ

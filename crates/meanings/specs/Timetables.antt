@@ -1,5 +1,4 @@
 -- A timetable book: each service has a list of connections.
-use mathlib.Core.Path.{_≡_}
 use Prim.Native.Nat.{ℕ, _+_, _≤_, _<_, min}
 use mathlib.Core.List.{List, [], _∷_, map}
 use lib.ListN.{length, getD}
@@ -40,14 +39,6 @@ timetabled cs spans s t = listed (length spans) s (earliest (service-rows cs spa
 
 abbrev pub no-connection : Connection
 no-connection = record { departure = 0; arrival = 0 }
-
--- a second is the least arrival of the connections that depart at or after t: one of them attains it, and none is earlier;
--- or there is none of those
-abbrev pub IsLeast : List Connection → ℕ → Option ℕ → Type 0
-IsLeast cs t None = (k : ℕ) → k < length cs → getD cs k no-connection .departure < t
-IsLeast cs t (Some a) =
-    ((k : ℕ) × (k < length cs) × (t ≤ getD cs k no-connection .departure) × (getD cs k no-connection .arrival ≡ a))
-    × ((k : ℕ) → k < length cs → t ≤ getD cs k no-connection .departure → a ≤ getD cs k no-connection .arrival)
 
 -- the departures of a list never fall
 abbrev pub Rising : List Connection → Type 0

@@ -26,6 +26,13 @@ impl<B> NoticeBook<B> {
         }
     }
 
+    /// The book below.
+    pub fn below(&self) -> &B
+        ensures { λ r. ⌜ now r ≡ now (self .entry) .below ⌝ }
+    {
+        &self.below
+    }
+
     /// The standing notices.
     pub fn notices(&self) -> NoticeTable
         ensures { λ r. ⌜ r ≡ now (self .entry) .notices ⌝ }

@@ -1,5 +1,5 @@
 -- What each way through a planner's call makes of its ledger.
-use mathlib.Core.Path.{_≡_, refl, sym, ap, _∙_}
+use mathlib.Core.Path.{_≡_, refl, sym, ap, _∙_, subst}
 use mathlib.Core.Bool.{Bool, true, false, cond}
 use mathlib.Core.List.{List, [], _∷_, _++_}
 use Prim.Native.Nat.{ℕ}
@@ -7,8 +7,15 @@ use Rattle.std.specs.Options.{isSome, valueOr}
 use Rattle.std.specs.declared.option.Option.{Option}
 use Rattle.std.specs.declared.option.Option.the-variants.{Some, None}
 use Rattle.std.proofs.shelf.Tests.{cond-true, cond-false, and-parts}
+use Rattle.std.specs.declared.result.Result.{Result}
+use Rattle.model.specs.declared.enquiry.Enquiry.{Enquiry}
+use Rattle.model.specs.declared.enquiry.Found.{Found}
+use Rattle.model.specs.declared.network.Arc.{Arc}
+use Rattle.model.specs.declared.network.Leg.{Leg}
 use Rattle.model.specs.declared.refusal.Refusal.{Refusal}
 use Rattle.model.specs.declared.refusal.Refusal.the-variants.{BulletinOpen, NoSuchBulletin, NoticeField}
+use Rattle.model.specs.Rules.{Automaton}
+use Rattle.model.specs.Asking.{Asked}
 use Rattle.notices.specs.declared.notice.Notice.{Notice}
 use Rattle.notices.specs.declared.table.NoticeTable.{NoticeTable}
 use Rattle.notices.specs.Notices.{put-in, lift-from, put-refusal, lift-refusal, unless}
@@ -16,7 +23,7 @@ use Rattle.notices.specs.Tables.{listed}
 use Rattle.ledger.specs.Ledgers.{Call, Ask, Open, Put, Lift, Issue, TearUp, Ledger, drafted, good, allowed, refusal, doing, after, fresh, ledger}
 use Rattle.ledger.proofs.Runs.{going-append}
 use Rattle.planner.specs.declared.planner.Planner.{Planner}
-use Rattle.planner.specs.Planners.{state, AsLedger, refusing, Made}
+use Rattle.planner.specs.Planners.{state, AsLedger, refusing, Made, Planned, world-under}
 
 some-if : {X : Type 0} (b : Bool) (x : X) → isSome (cond b (Some x) None) ≡ b
 some-if true x = refl
@@ -45,9 +52,16 @@ module _ {B R : Type 0} (size : B → ℕ) (p : Planner B R) where
         ∙ ap (λ (x : B). ledger (q .mark) (size x) (h ++ c ∷ [])) (sym b);
   }
 
-  -- an ask
-  pub asked : (c : Call) → after (p .mark) (size (p .book .below)) (state p) c ≡ state p → (h : List Call) → AsLedger size p h → AsLedger size p (h ++ c ∷ [])
-  asked c idle = made c p refl refl refl (sym idle) .along
+  -- an ask goes by the notices of the ledger, whatever the calls since the planner's start
+  pub planned : (answers : B → ℕ → ℕ → Option ℕ) (automata : R → Automaton) {L Q : Type 0} (stops : ℕ) (arcs : List Arc) (enquiry : Enquiry) {labels labels′ : List L} {slots slots′ : List Q} {slip slip′ : List Leg} {result : Result Found Refusal}
+      → Asked stops (size (p .book .below)) (world-under (state p .standing) arcs (answers (p .book .below)) (automata (p .rule))) enquiry labels labels′ slots slots′ slip slip′ result
+      → Planned size answers automata p stops arcs enquiry labels labels′ slots slots′ slip slip′ result
+  planned answers automata stops arcs enquiry {labels} {labels′} {slots} {slots′} {slip} {slip′} {result} asked = record {
+    by-standing = asked;
+    by-ledger = λ h as-ledger.
+        subst (λ (g : Ledger). Asked stops (size (p .book .below)) (world-under (g .standing) arcs (answers (p .book .below)) (automata (p .rule))) enquiry labels labels′ slots slots′ slip slip′ result) as-ledger asked;
+    along = made (Ask enquiry) p refl refl refl refl .along;
+  }
 
   -- a call that nothing refuses, and one that something does
   pub done : (c : Call) (q : Planner B R) → q .book .below ≡ p .book .below → q .rule ≡ p .rule → q .mark ≡ p .mark → refusing size p c ≡ None → state q ≡ doing (state p) c → Made size c p q

@@ -4,7 +4,7 @@ ghost use Rattle.rules.specs.Faults.{refusalOf};
 use model::Refusal;
 
 /// Why a rule is refused; the index is that of the first step that leads to no state.
-#[derive(Clone, Copy, Drop, PartialEq, Eq)]
+#[derive(Clone, Copy, Debug, Drop, PartialEq, Eq)]
 pub enum RuleFault {
     StateCount,
     StepCount,

@@ -11,6 +11,7 @@ mod words;
 pub use boarding::BoardingRule;
 pub use boarding::BoardingRuleRule;
 pub use fault::RuleFault;
+pub use fault::RuleFaultDebug;
 pub use lent::LentRule;
 pub use pair::Pair;
 pub use pair::PairRule;

@@ -4,3 +4,4 @@ pub mod At
 pub mod Writing
 pub mod Laws
 pub mod Steps
+pub mod Parts

@@ -4,6 +4,7 @@ ghost use lib.ListN.{length};
 ghost use denote.Ref.{now};
 
 mod number;
+mod place;
 
 /// The lent bytes of a file, and the place of the next byte to read.
 #[derive(Drop)]

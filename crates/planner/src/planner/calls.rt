@@ -2,16 +2,32 @@ ghost use mathlib.Core.Path.{_≡_};
 ghost use mathlib.Core.List.{[]};
 ghost use Rattle.notices.specs.Notices.{handing};
 ghost use Rattle.ledger.specs.Ledgers.{Open, Put, Lift, Issue, TearUp, good, allowed};
-ghost use Rattle.planner.specs.Planners.{AsLedger, Made, closed, state, refusing, returning};
+ghost use Rattle.planner.specs.Planners.{AsLedger, Made, Planned, closed, state, refusing, returning};
 use crate::planner::Bulletin;
 use crate::planner::Planner;
 use crate::planner::Returned;
 use book::Book;
+use labels::Label;
+use model::Enquiry;
+use model::Found;
+use model::Leg;
 use model::Refusal;
+use network::Network;
 use notices::Notice;
 use notices::NoticeBook;
 use notices::NoticeBookBook;
 use notices::NoticeTable;
+use rules::Rule;
+use search::Entry;
+
+impl Bulletin {
+    /// The mark of the planner that it was opened at.
+    pub fn mark(&self) -> u32
+        ensures { λ r. ⌜ r ≡ now (self .entry) .mark ⌝ }
+    {
+        self.mark
+    }
+}
 
 impl<B: Book, R> Planner<B, R> {
     /// A planner without notices and without a draft.
@@ -117,5 +133,30 @@ impl<B: Book, R> Planner<B, R> {
         }
         self.close(bulletin);
         Ok(())
+    }
+}
+
+impl<B: Book, R: Rule> Planner<B, R> {
+    /// The journey that answers the enquiry over the network, under the standing notices and by the rule: its legs go into the
+    /// slip's first rows. The label table and the queue's slots are free to be written once they are found long enough.
+    pub fn ask(
+        &self,
+        network: Network,
+        enquiry: Enquiry,
+        labels: &mut [Option<Label>],
+        slots: &mut [Entry],
+        slip: &mut [Leg],
+    ) -> Result<Found, Refusal>
+        ensures { λ r. ⌜ Planned services answer automaton (now (self .entry)) (network .entry .stops) (now (network .entry .arcs)) enquiry (now (labels .entry)) (now (labels .exit)) (now (slots .entry)) (now (slots .exit)) (now (slip .entry)) (now (slip .exit)) r ⌝ }
+    {
+        search::ask(
+            network,
+            &self.book,
+            &self.rule,
+            enquiry,
+            labels,
+            slots,
+            slip,
+        )
     }
 }

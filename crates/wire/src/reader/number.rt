@@ -1,50 +1,13 @@
 //! Numbers and names, read from a file.
-ghost use mathlib.Core.Path.{_≡_};
-ghost use Prim.Native.Nat.{min};
-ghost use lib.Dec.{eqb};
-ghost use lib.ListN.{take, drop, length};
 ghost use Rattle.wire.specs.Places.{numberAt};
 ghost use Rattle.wire.specs.Grammar.{ranged, below, since, exactly, text};
-ghost use Rattle.wire.specs.Readers.{Reads, file, viewed};
+ghost use Rattle.wire.specs.Readers.{Reads, viewed};
 use crate::fault::Fault;
 use crate::number::decoded;
 use crate::reader::Reader;
 use model::Refusal;
 
 impl<'a> Reader<'a> {
-    /// A reader at the front of a file.
-    pub fn new(bytes: &'a [u8]) -> Self
-        ensures file { λ r. ⌜ file r ≡ now (bytes .entry) ⌝ }
-        ensures front { λ r. ⌜ r .at ≡ 0 ⌝ }
-    {
-        Reader { bytes, at: 0 }
-    }
-
-    /// A reader at a place of a file; a place past the end counts as the end.
-    pub fn starting(bytes: &'a [u8], at: usize) -> Self
-        ensures file { λ r. ⌜ file r ≡ now (bytes .entry) ⌝ }
-        ensures place { λ r. ⌜ r .at ≡ min at (length (now (bytes .entry))) ⌝ }
-    {
-        Reader {
-            bytes,
-            at: at.min(bytes.len()),
-        }
-    }
-
-    /// Whether every byte is read.
-    pub fn is_at_end(&self) -> bool
-        ensures { λ r. ⌜ r ≡ eqb (now (self .entry) .at) (length (file (now (self .entry)))) ⌝ }
-    {
-        self.at == self.bytes.len()
-    }
-
-    /// The place of the next byte to read.
-    pub fn place(&self) -> usize
-        ensures { λ r. ⌜ r ≡ now (self .entry) .at ⌝ }
-    {
-        self.at
-    }
-
     /// The number at the reader's place, which then is past it; a fault leaves the place.
     pub fn number(&mut self) -> Result<u32, Fault>
         ensures { λ r. ⌜ Reads numberAt (now (self .entry)) (now (self .exit)) r ⌝ }

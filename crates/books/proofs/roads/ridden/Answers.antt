@@ -1,7 +1,10 @@
 use mathlib.Core.Path.{sym, _∙_}
 use native.Mathlib.Omega.{arith}
-use Rattle.meanings.proofs.Roads.{first, next, before, after, last}
+use Rattle.meanings.proofs.Roads.{unstarted, first, next, before, after, last}
 use Rattle.books.proofs.roads.ridden.Needs as need
+
+pub returns-then-coming-last : need.returns-then-coming-last
+returns-then-coming-last c = sym (unstarted (c .args .points .now) (c .args .coming) (c .pre .some) (c .pre .rising) (c .pre .steady) (c .if-coming-last .taken))
 
 pub loop-j-holds : need.loop-j-holds
 loop-j-holds c =

@@ -2,8 +2,8 @@ use mathlib.Core.Path.{_≡_}
 use Prim.Native.Nat.{_≤_}
 use lib.ListN.{drop}
 use Rattle.model.specs.Clock.{horizon}
-use Rattle.meanings.specs.Roads.{onward, ridden, reached}
-use Rattle.meanings.proofs.Roads.{Ordered}
+use Rattle.meanings.specs.Roads.{ridden, reached}
+use Rattle.meanings.proofs.Roads.{Ordered, onward}
 use Rattle.books.proofs.roads.ridden.Given as given
 
 abbrev pub Inv-loop-j : given.InvT-loop-j

@@ -1,0 +1,7 @@
+//! Network files, loaded into tables.
+mod loading;
+mod rows;
+
+pub use loading::Loaded;
+pub use loading::load;
+pub use rows::Counts;

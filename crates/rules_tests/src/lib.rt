@@ -1,0 +1,3 @@
+//! Rules at their edges.
+#[cfg(test)]
+mod tests;
