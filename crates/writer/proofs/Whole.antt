@@ -1,0 +1,189 @@
+-- What the parts write is what the format of the network file writes, and what they accept is what a file can hold.
+use mathlib.Core.Path.{_≡_, refl, sym, ap, ap₂, subst, _∙_}
+use mathlib.Core.Bool.{Bool, true, false, cond, _&&_}
+use mathlib.Core.List.{List, [], _∷_, _++_, map}
+use Prim.Native.Nat.{ℕ, suc, _+_, _-_, _≤_, _<_}
+use native.Mathlib.Omega.{arith}
+use lib.Dec.{leb, ltb, eqb}
+use lib.ListN.{length, drop}
+use native.Mathlib.Nat.{zero-add}
+use Rattle.std.proofs.shelf.Edits.{paste-all}
+use Rattle.std.proofs.shelf.Lists.{length-map}
+use Rattle.std.proofs.shelf.Tests.{leb-true, ltb-true, eqb-true, le-leb, lt-leb}
+use Rattle.std.specs.declared.option.Option.{Option}
+use Rattle.std.specs.declared.option.Option.the-variants.{Some, None}
+use Rattle.std.specs.declared.result.Result.{Result}
+use Rattle.std.specs.declared.result.Result.the-variants.{Ok, Err}
+use Rattle.model.specs.declared.network.Arc.{Arc}
+use Rattle.model.specs.declared.tables.Connection.{Connection}
+use Rattle.model.specs.declared.tables.Point.{Point}
+use Rattle.model.specs.declared.tables.Span.{Span}
+use Rattle.model.specs.declared.refusal.Refusal.{Refusal}
+use Rattle.model.specs.declared.refusal.Refusal.the-variants.{StopCount, NameLength, ServiceField, ArcCount, ArcField, NoSuchService, TailFalls, OutputShort}
+use Rattle.model.specs.Clock.{horizon}
+use Rattle.formats.specs.Contents.{NetworkContents, services}
+use Rattle.formats.specs.NetworkFile.{stop, stopCount, stops, runCount, walk, walks, connection, departed, connectionCount, timetable, timetables, reached, leastSecond, leastReached, point, passed, pointCount, road, roads, arc, left, arcCount, arcs, FineNetwork, network}
+use Rattle.wire.specs.Grammar.{Format, writeAll, FineAll}
+use Rattle.wire.specs.Numbers.{encode}
+use Rattle.writer.specs.Emission.{answered, orElse, outside, Emits, refusedAll, bytesAll, listRefusal, listBytes}
+use Rattle.writer.specs.Parts.{part, lies, nameRefusal, nameBytes, walkRefusal, connectionRefusal, pointRefusal, arcRefusal, onward, timetableRefusal, timetableBytes, roadRefusal, roadBytes}
+use Rattle.writer.specs.Networks.{NetworkTables, held, serviceCount, networkRefusal, networkBytes, written, Writes}
+
+none-first : (a b : Option Refusal) → orElse a b ≡ None → (a ≡ None) × (b ≡ None)
+none-first None b e = (refl, e)
+none-first (Some k) b e = let z : _≡_ {A = ℕ} 0 1 = cc in absurd (omega arith)
+
+-- a test that did not refuse
+unrefused : (t : Bool) (k : Refusal) → cond t None (Some k) ≡ None → t ≡ true
+unrefused true k e = refl
+unrefused false k e = let z : _≡_ {A = ℕ} 0 1 = cc in absurd (omega arith)
+
+both-true : (a b : Bool) → (a && b) ≡ true → (a ≡ true) × (b ≡ true)
+both-true true true e = (refl, refl)
+both-true true false e = let z : _≡_ {A = ℕ} 0 1 = cc in absurd (omega arith)
+both-true false b e = let z : _≡_ {A = ℕ} 0 1 = cc in absurd (omega arith)
+
+-- lists of the things themselves
+module _ {S A : Type 0} (F : S → Format A) (next : S → A → S) where
+  pub writes-list : (xs : List A) (s : S) → writeAll F next s xs ≡ bytesAll (λ s a. F s .write a) next s xs
+  unfolding writeAll bytesAll
+  writes-list [] s = refl
+  writes-list (a ∷ xs) s = ap (λ l. F s .write a ++ l) (writes-list xs (next s a))
+
+  pub fine-list : (f : S → A → Option Refusal) → ((s : S) (a : A) → f s a ≡ None → F s .Fine a) → (xs : List A) (s : S) → refusedAll f next s xs ≡ None → FineAll F next s xs
+  unfolding refusedAll FineAll
+  fine-list f item [] s e = tt
+  fine-list f item (a ∷ xs) s e = let p = none-first (f s a) (refusedAll f next (next s a) xs) e in (item s a (p .0), fine-list f item xs (next s a) (p .1))
+
+-- lists of rows, each of which names a thing
+module _ {A B : Type 0} (view : A → B) (F : Format B) where
+  pub writes-rows : (w : Unit {0} → A → List ℕ) → ((a : A) → F .write (view a) ≡ w tt a) → (xs : List A) → writeAll {S = Unit {0}} (λ _. F) (λ _ _. tt) tt (map view xs) ≡ bytesAll w onward tt xs
+  unfolding writeAll bytesAll
+  writes-rows w same [] = refl
+  writes-rows w same (a ∷ xs) = ap₂ (λ b l. b ++ l) (same a) (writes-rows w same xs)
+
+  pub fine-rows : (f : Unit {0} → A → Option Refusal) → ((a : A) → f tt a ≡ None → F .Fine (view a)) → (xs : List A) → refusedAll f onward tt xs ≡ None → FineAll {S = Unit {0}} (λ _. F) (λ _ _. tt) tt (map view xs)
+  unfolding refusedAll FineAll
+  fine-rows f item [] e = tt
+  fine-rows f item (a ∷ xs) e = let p = none-first (f tt a) (refusedAll f onward tt xs) e in (item a (p .0), fine-rows f item xs (p .1))
+
+-- the things of a network, one by one
+
+within : (lo hi : ℕ) (k : Refusal) (n : ℕ) → outside lo hi k n ≡ None → (lo ≤ n) × (n ≤ hi)
+within lo hi k n e = let t = both-true (leb lo n) (leb n hi) (unrefused _ k e) in (leb-true lo n (t .0), leb-true n hi (t .1))
+
+name-fine : (names : List ℕ) (row : Span) → nameRefusal names tt row ≡ None → stop .Fine (part names row)
+name-fine names row e = within 1 40 NameLength (length (part names row)) (none-first (cond (lies names row) None (Some NameLength)) _ e .1)
+
+connection-fine : (last : ℕ) (c : Connection) → connectionRefusal last c ≡ None → connection last .Fine c
+connection-fine last c e =
+    let t = both-true (leb last (c .departure)) (leb (c .departure) (c .arrival) && leb (c .arrival) horizon) (unrefused _ ServiceField e) in
+    let u = both-true (leb (c .departure) (c .arrival)) (leb (c .arrival) horizon) (t .1) in
+    (leb-true last (c .departure) (t .0), leb-true (c .departure) (c .arrival) (u .0), leb-true (c .arrival) horizon (u .1))
+
+point-fine : (before : Option Point) (p : Point) → pointRefusal before p ≡ None → point before .Fine p
+point-fine before p e =
+    let t = both-true (leb (leastSecond before) (p .second)) (leb (leastReached before) (reached p) && leb (reached p) horizon) (unrefused _ ServiceField e) in
+    let u = both-true (leb (leastReached before) (reached p)) (leb (reached p) horizon) (t .1) in
+    (leb-true (leastSecond before) (p .second) (t .0), leb-true (leastReached before) (reached p) (u .0), leb-true (reached p) horizon (u .1))
+
+arc-fine : (stops services last : ℕ) (a : Arc) → arcRefusal stops services last a ≡ None → arc stops services last .Fine a
+arc-fine stops services last a e =
+    let p = none-first (cond (ltb (a .tail) stops && (ltb (a .head) stops && leb (a .label) 5)) None (Some ArcField)) _ e in
+    let q = none-first (cond (ltb (a .service) services) None (Some NoSuchService)) _ (p .1) in
+    let t = both-true (ltb (a .tail) stops) (ltb (a .head) stops && leb (a .label) 5) (unrefused _ ArcField (p .0)) in
+    let u = both-true (ltb (a .head) stops) (leb (a .label) 5) (t .1) in
+    ((ltb-true (a .tail) stops (t .0), ltb-true (a .head) stops (u .0), leb-true (a .label) 5 (u .1), ltb-true (a .service) services (unrefused _ NoSuchService (q .0))), unrefused _ TailFalls (q .1))
+
+list-fine : {S A : Type 0} (lo hi : ℕ) (k : Refusal) (F : S → Format A) (next : S → A → S) (f : S → A → Option Refusal) → ((s : S) (a : A) → f s a ≡ None → F s .Fine a) → (s : S) (xs : List A) →
+    listRefusal lo hi k f next s xs ≡ None → ((lo ≤ length xs) × (length xs ≤ hi)) × FineAll F next s xs
+list-fine lo hi k F next f item s xs e = let p = none-first (outside lo hi k (length xs)) (refusedAll f next s xs) e in (within lo hi k (length xs) (p .0), fine-list F next f item xs s (p .1))
+
+rows-fine : {B : Type 0} (lo hi : ℕ) (k : Refusal) (view : Span → B) (F : Format B) (f : Unit {0} → Span → Option Refusal) → ((a : Span) → f tt a ≡ None → F .Fine (view a)) → (xs : List Span) →
+    listRefusal lo hi k f onward tt xs ≡ None → ((lo ≤ length (map view xs)) × (length (map view xs) ≤ hi)) × FineAll {S = Unit {0}} (λ _. F) (λ _ _. tt) tt (map view xs)
+rows-fine lo hi k view F f item xs e =
+    let p = none-first (outside lo hi k (length xs)) (refusedAll f onward tt xs) e in
+    let w = within lo hi k (length xs) (p .0) in
+    let l = length-map xs view in
+    ((omega (arith, w .0), omega (arith, w .1)), fine-rows view F f item xs (p .1))
+
+timetable-fine : (table : List Connection) (row : Span) → timetableRefusal table tt row ≡ None → timetable .Fine (part table row)
+timetable-fine table row e = list-fine 1 512 ServiceField connection departed connectionRefusal connection-fine 0 (part table row) (none-first (cond (lies table row) None (Some ServiceField)) _ e .1)
+
+road-fine : (table : List Point) (row : Span) → roadRefusal table tt row ≡ None → road .Fine (part table row)
+road-fine table row e = list-fine 1 96 ServiceField point passed pointRefusal point-fine None (part table row) (none-first (cond (lies table row) None (Some ServiceField)) _ e .1)
+
+-- what is not refused can stand in a file
+pub network-fine : (stops : ℕ) (t : NetworkTables) → networkRefusal stops t ≡ None → network .Fine (held t)
+network-fine stops t e =
+    let p₀ = none-first (cond (eqb (length (t .stops)) stops) None (Some StopCount)) _ e in
+    let p₁ = none-first (listRefusal 1 1024 StopCount (nameRefusal (t .names)) onward tt (t .stops)) _ (p₀ .1) in
+    let p₂ = none-first (listRefusal 0 4096 ServiceField walkRefusal onward tt (t .walks)) _ (p₁ .1) in
+    let p₃ = none-first (listRefusal 0 4096 ServiceField (timetableRefusal (t .connections)) onward tt (t .timetables)) _ (p₂ .1) in
+    let p₄ = none-first (listRefusal 0 4096 ServiceField (roadRefusal (t .points)) onward tt (t .roads)) _ (p₃ .1) in
+    let count : length (t .stops) ≡ stops = eqb-true (length (t .stops)) stops (unrefused _ StopCount (p₀ .0)) in
+    let names : length (map (part (t .names)) (t .stops)) ≡ stops = length-map (t .stops) (part (t .names)) ∙ count in
+    let all : length (t .walks) + length (map (part (t .connections)) (t .timetables)) + length (map (part (t .points)) (t .roads)) ≡ serviceCount t =
+    omega (arith, length-map (t .timetables) (part (t .connections)), length-map (t .roads) (part (t .points))) in
+    let a = list-fine 0 8192 ArcCount (arc stops (serviceCount t)) left (arcRefusal stops (serviceCount t)) (arc-fine stops (serviceCount t)) 0 (t .arcs) (p₄ .1) in
+    record {
+      names = rows-fine 1 1024 StopCount (part (t .names)) stop (nameRefusal (t .names)) (name-fine (t .names)) (t .stops) (p₁ .0);
+      walks = list-fine {S = Unit {0}} 0 4096 ServiceField (λ _. walk) (λ _ _. tt) walkRefusal (λ _ w e. within 0 86400 ServiceField w e) tt (t .walks) (p₂ .0);
+      timetables = rows-fine 0 4096 ServiceField (part (t .connections)) timetable (timetableRefusal (t .connections)) (timetable-fine (t .connections)) (t .timetables) (p₃ .0);
+      roads = rows-fine 0 4096 ServiceField (part (t .points)) road (roadRefusal (t .points)) (road-fine (t .points)) (t .roads) (p₄ .0);
+      arcs = subst (λ n. arcs n (services (held t)) .Fine (t .arcs)) (sym names) (subst (λ m. arcs stops m .Fine (t .arcs)) (sym all) a);
+    }
+
+-- the bytes of the parts are the file's
+timetable-bytes : (table : List Connection) (row : Span) → timetable .write (part table row) ≡ timetableBytes table tt row
+timetable-bytes table row = ap (λ l. encode (length (part table row)) ++ l) (writes-list connection departed (part table row) 0)
+
+road-bytes : (table : List Point) (row : Span) → road .write (part table row) ≡ roadBytes table tt row
+road-bytes table row = ap (λ l. encode (length (part table row)) ++ l) (writes-list point passed (part table row) None)
+
+rows-bytes : {B : Type 0} (N : Format ℕ) (view : Span → B) (F : Format B) (w : Unit {0} → Span → List ℕ) → ((a : Span) → F .write (view a) ≡ w tt a) → (xs : List Span) →
+    encode (length (map view xs)) ++ writeAll {S = Unit {0}} (λ _. F) (λ _ _. tt) tt (map view xs) ≡ listBytes w onward tt xs
+rows-bytes N view F w same xs = ap₂ (λ n l. encode n ++ l) (length-map xs view) (writes-rows view F w same xs)
+
+pub network-bytes : (t : NetworkTables) → network .write (held t) ≡ networkBytes t
+network-bytes t =
+    ap (λ l. encode 1 ++ l) (ap₂ (λ a b. a ++ b) (rows-bytes stopCount (part (t .names)) stop (nameBytes (t .names)) (λ _. refl) (t .stops))
+    (ap₂ (λ a b. a ++ b) (ap (λ l. encode (length (t .walks)) ++ l) (writes-list {S = Unit {0}} (λ _. walk) (λ _ _. tt) (t .walks) tt))
+    (ap₂ (λ a b. a ++ b) (rows-bytes runCount (part (t .connections)) timetable (timetableBytes (t .connections)) (timetable-bytes (t .connections)) (t .timetables))
+    (ap₂ (λ a b. a ++ b) (rows-bytes runCount (part (t .points)) road (roadBytes (t .points)) (road-bytes (t .points)) (t .roads))
+    (ap (λ l. encode (length (t .arcs)) ++ l) (writes-list (arc (length (held t .names)) (services (held t))) left (t .arcs) 0))))))
+
+-- what a write says
+module _ (stops : ℕ) (t : NetworkTables) (before : List ℕ) where
+  same-bytes : length (network .write (held t)) ≡ length (networkBytes t)
+  same-bytes = ap length (network-bytes t)
+
+  pub writes-refused : (k : Refusal) → networkRefusal stops t ≡ Some k → Writes stops t before before (Err k)
+  writes-refused k e = record {
+    answer = sym (ap (λ o. answered (orElse o (cond (leb (length (network .write (held t))) (length before)) None (Some OutputShort))) (length (network .write (held t)))) e);
+    output = refl;
+    fine = network-fine stops t;
+  }
+
+  pub writes-short : networkRefusal stops t ≡ None → length before < length (networkBytes t) → Writes stops t before before (Err OutputShort)
+  writes-short e over =
+      let n = length (network .write (held t)) in
+      let test : leb n (length before) ≡ false = lt-leb n (length before) (omega (arith, same-bytes)) in
+      record {
+        answer = sym (ap (λ o. answered (orElse o (cond (leb n (length before)) None (Some OutputShort))) n) e ∙ ap (λ b. answered (cond b None (Some OutputShort)) n) test);
+        output = refl;
+        fine = network-fine stops t;
+      }
+
+  pub writes-network : (after : List ℕ) (r : Result ℕ Refusal) → networkRefusal stops t ≡ None → length (networkBytes t) ≤ length before → Emits (networkRefusal stops t) (networkBytes t) 0 before after r → Writes stops t before after r
+  writes-network after r e room h =
+      let n = length (network .write (held t)) in
+      let test : leb n (length before) ≡ true = le-leb n (length before) (omega (arith, same-bytes)) in
+      let is : r ≡ Ok n = h .answer ∙ ap (λ o. answered o (0 + length (networkBytes t))) e ∙ ap Ok (omega (arith, same-bytes)) in
+      let all : after ≡ networkBytes t ++ drop (length (networkBytes t)) before =
+      h .output e (omega arith) ∙ paste-all before 0 (networkBytes t) (length (networkBytes t)) refl ∙ ap (λ k. networkBytes t ++ drop k before) (zero-add (length (networkBytes t))) in
+      record {
+        answer = is ∙ sym (ap (λ o. answered (orElse o (cond (leb n (length before)) None (Some OutputShort))) n) e ∙ ap (λ b. answered (cond b None (Some OutputShort)) n) test);
+        output = all ∙ ap (λ bs. bs ++ drop (length bs) before) (sym (network-bytes t)) ∙ sym (ap (λ q. written q (network .write (held t)) before) is);
+        fine = network-fine stops t;
+      }

@@ -1,0 +1,6 @@
+//! The writer of network files.
+mod item;
+mod list;
+mod network;
+
+pub use network::write_network;
