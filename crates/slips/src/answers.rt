@@ -27,13 +27,17 @@ use model::Enquiry;
 use model::Leg;
 use model::Refusal;
 use network::Network;
+use network::NetworkFault;
+use planner::Planner;
 use rulefile::load_rule;
 use rules::Rule;
 use rules::TableRule;
 use rules::TableRuleRule;
-use search::ask;
 use std::io;
 use wire::Fault;
+
+/// The mark of the run's one planner.
+const MARK: u32 = 0;
 
 /// The services of a file: its walks, then its timetables, then its roads.
 type FileBook<'a> = Bank<Bank<Walks<'a>, Timetables<'a>>, Roads<'a>>;
@@ -54,12 +58,18 @@ fn print_legs(rt: &LibcRuntime, network: Network, legs: &[Leg]) -> io::Result<()
 fn answer<B: Book, R: Rule>(
     rt: &LibcRuntime,
     network: Network,
-    book: &B,
-    rule: &R,
+    planner: &Planner<B, R>,
     enquiry: Enquiry,
     tables: &mut AskTables,
 ) -> io::Result<()> {
-    match ask(network, book, rule, enquiry, tables.labels.as_mut_slice(), tables.slots.as_mut_slice(), tables.slip.as_mut_slice()) {
+    let answered = planner.ask(
+        network,
+        enquiry,
+        tables.labels.as_mut_slice(),
+        tables.slots.as_mut_slice(),
+        tables.slip.as_mut_slice(),
+    );
+    match answered {
         Ok(found) => {
             let line = JourneyLine { enquiry, found };
             println!(rt, "{line}")?;
@@ -74,8 +84,7 @@ fn answer<B: Book, R: Rule>(
 fn answer_enquiries<B: Book, R: Rule>(
     rt: &LibcRuntime,
     network: Network,
-    book: &B,
-    rule: &R,
+    planner: &Planner<B, R>,
     input: &[u8],
     from: usize,
 ) -> Result<(), Halt> {
@@ -87,7 +96,7 @@ fn answer_enquiries<B: Book, R: Rule>(
             break;
         }
         let (enquiry, next) = enquiry_at(input, at)?;
-        answer(rt, network, book, rule, enquiry, &mut tables)?;
+        answer(rt, network, planner, enquiry, &mut tables)?;
         at = next;
     }
     Ok(())
@@ -114,20 +123,38 @@ fn lay_book<'a>(
     book.second.lay(points, roads)
 }
 
+/// Becomes the network that a file was loaded with.
+fn lay_network<'a>(
+    network: &mut Network<'a>,
+    tables: &'a FileTables,
+    counts: Counts,
+) -> Result<(), NetworkFault> {
+    let Ok(stops) = u32::try_from(counts.stops) else {
+        return Err(NetworkFault::StopCount);
+    };
+    network.lay(stops, front(tables.arcs.as_slice(), counts.arcs))
+}
+
 /// A refusal of what was loaded from a file that ends at a place.
 fn refused_at(refusal: Refusal, at: usize) -> Halt {
     Halt::Fault(Fault { refusal, at })
+}
+
+/// The rule of the file that begins at a place of the input, and the place after it.
+fn read_rule(input: &[u8], at: usize) -> Result<(TableRule, usize), Halt> {
+    let mut rule = match TableRule::new(1, &[None; 6], &[false]) {
+        Ok(rule) => rule,
+        Err(fault) => return Err(refused_at(fault.refusal(), at)),
+    };
+    let end = load_rule(input, at, &mut rule)?;
+    Ok((rule, end))
 }
 
 /// Reads the files at the front of the input, and answers the enquiries after them.
 pub fn answer_all(rt: &LibcRuntime, input: &[u8]) -> Result<(), Halt> {
     let mut tables = FileTables::new(rt.alloc())?;
     let loaded = tables.load(input)?;
-    let mut rule = match TableRule::new(1, &[None; 6], &[false]) {
-        Ok(rule) => rule,
-        Err(fault) => return Err(refused_at(fault.refusal(), loaded.end)),
-    };
-    let enquiries = load_rule(input, loaded.end, &mut rule)?;
+    let (rule, enquiries) = read_rule(input, loaded.end)?;
     let mut book = Bank {
         first: Bank {
             first: Walks::empty(),
@@ -139,11 +166,9 @@ pub fn answer_all(rt: &LibcRuntime, input: &[u8]) -> Result<(), Halt> {
         return Err(refused_at(fault.refusal(), loaded.end));
     }
     let mut network = Network::empty();
-    if let Err(fault) = network.lay(
-        loaded.counts.stops as u32,
-        front(tables.arcs.as_slice(), loaded.counts.arcs),
-    ) {
+    if let Err(fault) = lay_network(&mut network, &tables, loaded.counts) {
         return Err(refused_at(fault.refusal(), loaded.end));
     }
-    answer_enquiries(rt, network, &book, &rule, input, enquiries)
+    let planner = Planner::new(book, rule, MARK);
+    answer_enquiries(rt, network, &planner, input, enquiries)
 }
