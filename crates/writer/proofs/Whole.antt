@@ -260,6 +260,6 @@ module _ (stops : ℕ) (t : NetworkTables) (before : List ℕ) where
       let test : leb n (length before) ≡ true = le-leb n (length before) (omega (arith, same-bytes)) in
       let is : r ≡ Ok n = h .answer ∙ ap (λ o. answered o (0 + length (networkBytes t))) e ∙ ap Ok (omega (arith, same-bytes)) in
       let all : after ≡ networkBytes t ++ drop (length (networkBytes t)) before =
-          h .output e (omega arith) ∙ paste-all before 0 (networkBytes t) (length (networkBytes t)) refl ∙ ap (λ k. networkBytes t ++ drop k before) (zero-add (length (networkBytes t))) in
+      h .output e (omega arith) ∙ paste-all before 0 (networkBytes t) (length (networkBytes t)) refl ∙ ap (λ k. networkBytes t ++ drop k before) (zero-add (length (networkBytes t))) in
       says after r (is ∙ sym (ap (λ o. answered (orElse o (cond (leb n (length before)) None (Some OutputShort))) n) e ∙ ap (λ b. answered (cond b None (Some OutputShort)) n) test))
       (all ∙ ap (λ bs. bs ++ drop (length bs) before) (sym (network-bytes t)) ∙ sym (ap (λ q. written q (network .write (held t)) before) is))
