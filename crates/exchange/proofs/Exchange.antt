@@ -18,7 +18,8 @@ use Rattle.formats.proofs.NetworkFile.{network-lawful}
 use Rattle.files.specs.Loading.{joined, listRows, nameRows, firstStop}
 use Rattle.files.proofs.Filling.{length-nameRows}
 use Rattle.files.proofs.Making.{rows-hold-names}
-use Rattle.writer.specs.Parts.{part, lies}
+use Rattle.meanings.specs.Spans.{rows}
+use Rattle.writer.specs.Parts.{lies}
 use Rattle.writer.specs.Networks.{held, AllLie, Rowed}
 use Rattle.exchange.specs.Exchange.{loadedTables, Accepted-files-write-back}
 
@@ -29,7 +30,7 @@ row-lies : {A : Type 0} (table : List A) (row : Span) → row .start ≤ length 
 row-lies table row low high = both-true _ _ (le-leb (row .start) (length table) low) (le-leb (row .len) (length table - row .start) high)
 
 -- lists that stand in a table one after the other
-lists-parted : {A : Type 0} (lists : List (List A)) (front rest table : List A) (k : ℕ) → table ≡ front ++ (joined lists ++ rest) → k ≡ length front → (map (part table) (listRows k lists) ≡ lists) × AllLie table (listRows k lists)
+lists-parted : {A : Type 0} (lists : List (List A)) (front rest table : List A) (k : ℕ) → table ≡ front ++ (joined lists ++ rest) → k ≡ length front → (map (rows table) (listRows k lists) ≡ lists) × AllLie table (listRows k lists)
 unfolding joined listRows
 lists-parted [] front rest table k e is = (refl, tt)
 lists-parted (xs ∷ lists) front rest table k e is =
@@ -45,13 +46,13 @@ lists-parted (xs ∷ lists) front rest table k e is =
     (ap₂ (λ a l. a ∷ l) first (more .0), (row-lies table (record { start = k; len = length xs }) low high, more .1))
 
 -- names that stand where their rows say lie within the file, since none is empty
-names-lie : (file : List ℕ) (names : List (List ℕ)) (p : ℕ) → map (part file) (nameRows p names) ≡ names → FineAll {S = Unit {0}} (λ _. stop) (λ _ _. tt) tt names → AllLie file (nameRows p names)
+names-lie : (file : List ℕ) (names : List (List ℕ)) (p : ℕ) → map (rows file) (nameRows p names) ≡ names → FineAll {S = Unit {0}} (λ _. stop) (λ _ _. tt) tt names → AllLie file (nameRows p names)
 unfolding nameRows FineAll
 names-lie file [] p e fine = tt
 names-lie file (name ∷ names) p e fine =
     let from = p + length (encode (length name)) in
     let first : take (length name) (drop from file) ≡ name = cc in
-    let others : map (part file) (nameRows (from + length name) names) ≡ names = cc in
+    let others : map (rows file) (nameRows (from + length name) names) ≡ names = cc in
     let long = ap length first in
     let cut = length-take (length name) (drop from file) in
     let some = fine .0 .0 in

@@ -29,7 +29,8 @@ use Rattle.wire.proofs.Laws.{file-held}
 use Rattle.formats.proofs.NetworkFile.{network-lawful}
 use Rattle.writer.proofs.Emitting.{answered-ok}
 use Rattle.writer.specs.Emission.{answered, orElse, outside, Emits, refusedAll, bytesAll, listRefusal, listBytes}
-use Rattle.writer.specs.Parts.{part, lies, nameRefusal, nameBytes, walkRefusal, connectionRefusal, pointRefusal, arcRefusal, onward, timetableRefusal, timetableBytes, roadRefusal, roadBytes}
+use Rattle.meanings.specs.Spans.{rows}
+use Rattle.writer.specs.Parts.{lies, nameRefusal, nameBytes, walkRefusal, connectionRefusal, pointRefusal, arcRefusal, onward, timetableRefusal, timetableBytes, roadRefusal, roadBytes}
 use Rattle.writer.specs.Networks.{NetworkTables, held, serviceCount, networkRefusal, networkBytes, AllLie, Rowed, written, Writes}
 
 none-first : (a b : Option Refusal) → orElse a b ≡ None → (a ≡ None) × (b ≡ None)
@@ -75,8 +76,8 @@ module _ {A B : Type 0} (view : A → B) (F : Format B) where
 within : (lo hi : ℕ) (k : Refusal) (n : ℕ) → outside lo hi k n ≡ None → (lo ≤ n) × (n ≤ hi)
 within lo hi k n e = let t = both-true (leb lo n) (leb n hi) (unrefused _ k e) in (leb-true lo n (t .0), leb-true n hi (t .1))
 
-name-fine : (names : List ℕ) (row : Span) → nameRefusal names tt row ≡ None → stop .Fine (part names row)
-name-fine names row e = within 1 40 NameLength (length (part names row)) (none-first (cond (lies names row) None (Some NameLength)) _ e .1)
+name-fine : (names : List ℕ) (row : Span) → nameRefusal names tt row ≡ None → stop .Fine (rows names row)
+name-fine names row e = within 1 40 NameLength (length (rows names row)) (none-first (cond (lies names row) None (Some NameLength)) _ e .1)
 
 connection-fine : (last : ℕ) (c : Connection) → connectionRefusal last c ≡ None → connection last .Fine c
 connection-fine last c e =
@@ -110,11 +111,11 @@ rows-fine lo hi k view F f item xs e =
     let l = length-map xs view in
     ((omega (arith, w .0), omega (arith, w .1)), fine-rows view F f item xs (p .1))
 
-timetable-fine : (table : List Connection) (row : Span) → timetableRefusal table tt row ≡ None → timetable .Fine (part table row)
-timetable-fine table row e = list-fine 1 512 ServiceField connection departed connectionRefusal connection-fine 0 (part table row) (none-first (cond (lies table row) None (Some ServiceField)) _ e .1)
+timetable-fine : (table : List Connection) (row : Span) → timetableRefusal table tt row ≡ None → timetable .Fine (rows table row)
+timetable-fine table row e = list-fine 1 512 ServiceField connection departed connectionRefusal connection-fine 0 (rows table row) (none-first (cond (lies table row) None (Some ServiceField)) _ e .1)
 
-road-fine : (table : List Point) (row : Span) → roadRefusal table tt row ≡ None → road .Fine (part table row)
-road-fine table row e = list-fine 1 96 ServiceField point passed pointRefusal point-fine None (part table row) (none-first (cond (lies table row) None (Some ServiceField)) _ e .1)
+road-fine : (table : List Point) (row : Span) → roadRefusal table tt row ≡ None → road .Fine (rows table row)
+road-fine table row e = list-fine 1 96 ServiceField point passed pointRefusal point-fine None (rows table row) (none-first (cond (lies table row) None (Some ServiceField)) _ e .1)
 
 -- what is not refused can stand in a file
 pub network-fine : (stops : ℕ) (t : NetworkTables) → networkRefusal stops t ≡ None → network .Fine (held t)
@@ -125,24 +126,24 @@ network-fine stops t e =
     let p₃ = none-first (listRefusal 0 4096 ServiceField (timetableRefusal (t .connections)) onward tt (t .timetables)) _ (p₂ .1) in
     let p₄ = none-first (listRefusal 0 4096 ServiceField (roadRefusal (t .points)) onward tt (t .roads)) _ (p₃ .1) in
     let count : length (t .stops) ≡ stops = eqb-true (length (t .stops)) stops (unrefused _ StopCount (p₀ .0)) in
-    let names : length (map (part (t .names)) (t .stops)) ≡ stops = length-map (t .stops) (part (t .names)) ∙ count in
-    let all : length (t .walks) + length (map (part (t .connections)) (t .timetables)) + length (map (part (t .points)) (t .roads)) ≡ serviceCount t =
-    omega (arith, length-map (t .timetables) (part (t .connections)), length-map (t .roads) (part (t .points))) in
+    let names : length (map (rows (t .names)) (t .stops)) ≡ stops = length-map (t .stops) (rows (t .names)) ∙ count in
+    let all : length (t .walks) + length (map (rows (t .connections)) (t .timetables)) + length (map (rows (t .points)) (t .roads)) ≡ serviceCount t =
+    omega (arith, length-map (t .timetables) (rows (t .connections)), length-map (t .roads) (rows (t .points))) in
     let a = list-fine 0 8192 ArcCount (arc stops (serviceCount t)) left (arcRefusal stops (serviceCount t)) (arc-fine stops (serviceCount t)) 0 (t .arcs) (p₄ .1) in
     record {
-      names = rows-fine 1 1024 StopCount (part (t .names)) stop (nameRefusal (t .names)) (name-fine (t .names)) (t .stops) (p₁ .0);
+      names = rows-fine 1 1024 StopCount (rows (t .names)) stop (nameRefusal (t .names)) (name-fine (t .names)) (t .stops) (p₁ .0);
       walks = list-fine {S = Unit {0}} 0 4096 ServiceField (λ _. walk) (λ _ _. tt) walkRefusal (λ _ w e. within 0 86400 ServiceField w e) tt (t .walks) (p₂ .0);
-      timetables = rows-fine 0 4096 ServiceField (part (t .connections)) timetable (timetableRefusal (t .connections)) (timetable-fine (t .connections)) (t .timetables) (p₃ .0);
-      roads = rows-fine 0 4096 ServiceField (part (t .points)) road (roadRefusal (t .points)) (road-fine (t .points)) (t .roads) (p₄ .0);
+      timetables = rows-fine 0 4096 ServiceField (rows (t .connections)) timetable (timetableRefusal (t .connections)) (timetable-fine (t .connections)) (t .timetables) (p₃ .0);
+      roads = rows-fine 0 4096 ServiceField (rows (t .points)) road (roadRefusal (t .points)) (road-fine (t .points)) (t .roads) (p₄ .0);
       arcs = subst (λ n. arcs n (services (held t)) .Fine (t .arcs)) (sym names) (subst (λ m. arcs stops m .Fine (t .arcs)) (sym all) a);
     }
 
 -- the bytes of the parts are the file's
-timetable-bytes : (table : List Connection) (row : Span) → timetable .write (part table row) ≡ timetableBytes table tt row
-timetable-bytes table row = ap (λ l. encode (length (part table row)) ++ l) (writes-list connection departed (part table row) 0)
+timetable-bytes : (table : List Connection) (row : Span) → timetable .write (rows table row) ≡ timetableBytes table tt row
+timetable-bytes table row = ap (λ l. encode (length (rows table row)) ++ l) (writes-list connection departed (rows table row) 0)
 
-road-bytes : (table : List Point) (row : Span) → road .write (part table row) ≡ roadBytes table tt row
-road-bytes table row = ap (λ l. encode (length (part table row)) ++ l) (writes-list point passed (part table row) None)
+road-bytes : (table : List Point) (row : Span) → road .write (rows table row) ≡ roadBytes table tt row
+road-bytes table row = ap (λ l. encode (length (rows table row)) ++ l) (writes-list point passed (rows table row) None)
 
 rows-bytes : {B : Type 0} (N : Format ℕ) (view : Span → B) (F : Format B) (w : Unit {0} → Span → List ℕ) → ((a : Span) → F .write (view a) ≡ w tt a) → (xs : List Span) →
     encode (length (map view xs)) ++ writeAll {S = Unit {0}} (λ _. F) (λ _ _. tt) tt (map view xs) ≡ listBytes w onward tt xs
@@ -150,10 +151,10 @@ rows-bytes N view F w same xs = ap₂ (λ n l. encode n ++ l) (length-map xs vie
 
 pub network-bytes : (t : NetworkTables) → network .write (held t) ≡ networkBytes t
 network-bytes t =
-    ap (λ l. encode 1 ++ l) (ap₂ (λ a b. a ++ b) (rows-bytes stopCount (part (t .names)) stop (nameBytes (t .names)) (λ _. refl) (t .stops))
+    ap (λ l. encode 1 ++ l) (ap₂ (λ a b. a ++ b) (rows-bytes stopCount (rows (t .names)) stop (nameBytes (t .names)) (λ _. refl) (t .stops))
     (ap₂ (λ a b. a ++ b) (ap (λ l. encode (length (t .walks)) ++ l) (writes-list {S = Unit {0}} (λ _. walk) (λ _ _. tt) (t .walks) tt))
-    (ap₂ (λ a b. a ++ b) (rows-bytes runCount (part (t .connections)) timetable (timetableBytes (t .connections)) (timetable-bytes (t .connections)) (t .timetables))
-    (ap₂ (λ a b. a ++ b) (rows-bytes runCount (part (t .points)) road (roadBytes (t .points)) (road-bytes (t .points)) (t .roads))
+    (ap₂ (λ a b. a ++ b) (rows-bytes runCount (rows (t .connections)) timetable (timetableBytes (t .connections)) (timetable-bytes (t .connections)) (t .timetables))
+    (ap₂ (λ a b. a ++ b) (rows-bytes runCount (rows (t .points)) road (roadBytes (t .points)) (road-bytes (t .points)) (t .roads))
     (ap (λ l. encode (length (t .arcs)) ++ l) (writes-list (arc (length (held t .names)) (services (held t))) left (t .arcs) 0))))))
 
 -- and what can stand in a file is not refused
@@ -192,30 +193,30 @@ arc-none stops services last a fine =
     none-both _ _ (passes _ ArcField (and-true (ltb (a .tail) stops) _ (lt-ltb (a .tail) stops (fine .0 .0)) (and-true (ltb (a .head) stops) _ (lt-ltb (a .head) stops (fine .0 .1)) (le-leb (a .label) 5 (fine .0 .2)))))
     (none-both _ _ (passes _ NoSuchService (lt-ltb (a .service) services (fine .0 .3))) (passes _ TailFalls (fine .1)))
 
-timetable-none : (table : List Connection) (row : Span) → lies table row ≡ true → timetable .Fine (part table row) → timetableRefusal table tt row ≡ None
+timetable-none : (table : List Connection) (row : Span) → lies table row ≡ true → timetable .Fine (rows table row) → timetableRefusal table tt row ≡ None
 timetable-none table row lie fine =
-    none-both _ _ (passes _ ServiceField lie) (none-both _ _ (inside 1 512 ServiceField (length (part table row)) (fine .0 .0) (fine .0 .1)) (list-none connection departed connectionRefusal connection-none (part table row) 0 (fine .1)))
+    none-both _ _ (passes _ ServiceField lie) (none-both _ _ (inside 1 512 ServiceField (length (rows table row)) (fine .0 .0) (fine .0 .1)) (list-none connection departed connectionRefusal connection-none (rows table row) 0 (fine .1)))
 
-road-none : (table : List Point) (row : Span) → lies table row ≡ true → road .Fine (part table row) → roadRefusal table tt row ≡ None
+road-none : (table : List Point) (row : Span) → lies table row ≡ true → road .Fine (rows table row) → roadRefusal table tt row ≡ None
 road-none table row lie fine =
-    none-both _ _ (passes _ ServiceField lie) (none-both _ _ (inside 1 96 ServiceField (length (part table row)) (fine .0 .0) (fine .0 .1)) (list-none point passed pointRefusal point-none (part table row) None (fine .1)))
+    none-both _ _ (passes _ ServiceField lie) (none-both _ _ (inside 1 96 ServiceField (length (rows table row)) (fine .0 .0) (fine .0 .1)) (list-none point passed pointRefusal point-none (rows table row) None (fine .1)))
 
-name-none : (names : List ℕ) (row : Span) → lies names row ≡ true → stop .Fine (part names row) → nameRefusal names tt row ≡ None
-name-none names row lie fine = none-both _ _ (passes _ NameLength lie) (inside 1 40 NameLength (length (part names row)) (fine .0) (fine .1))
+name-none : (names : List ℕ) (row : Span) → lies names row ≡ true → stop .Fine (rows names row) → nameRefusal names tt row ≡ None
+name-none names row lie fine = none-both _ _ (passes _ NameLength lie) (inside 1 40 NameLength (length (rows names row)) (fine .0) (fine .1))
 
 pub network-unrefused : (stops : ℕ) (t : NetworkTables) → Rowed stops t → network .Fine (held t) → networkRefusal stops t ≡ None
 network-unrefused stops t rowed fine =
-    let ns = length-map (t .stops) (part (t .names)) in
-    let ts = length-map (t .timetables) (part (t .connections)) in
-    let rs = length-map (t .roads) (part (t .points)) in
+    let ns = length-map (t .stops) (rows (t .names)) in
+    let ts = length-map (t .timetables) (rows (t .connections)) in
+    let rs = length-map (t .roads) (rows (t .points)) in
     let names : length (held t .names) ≡ stops = ns ∙ rowed .count in
     let all : services (held t) ≡ serviceCount t = omega (arith, ts, rs) in
     let joined = subst (λ m. arcs stops m .Fine (t .arcs)) all (subst (λ n. arcs n (services (held t)) .Fine (t .arcs)) names (fine .arcs)) in
     none-both _ _ (passes _ StopCount (eq-eqb (length (t .stops)) stops (rowed .count)))
-    (none-both _ _ (none-both _ _ (inside 1 1024 StopCount (length (t .stops)) (omega (arith, ns, fine .names .0 .0)) (omega (arith, ns, fine .names .0 .1))) (rows-none (t .names) (part (t .names)) stop (nameRefusal (t .names)) (name-none (t .names)) (t .stops) (rowed .names) (fine .names .1)))
+    (none-both _ _ (none-both _ _ (inside 1 1024 StopCount (length (t .stops)) (omega (arith, ns, fine .names .0 .0)) (omega (arith, ns, fine .names .0 .1))) (rows-none (t .names) (rows (t .names)) stop (nameRefusal (t .names)) (name-none (t .names)) (t .stops) (rowed .names) (fine .names .1)))
     (none-both _ _ (none-both _ _ (inside 0 4096 ServiceField (length (t .walks)) (fine .walks .0 .0) (fine .walks .0 .1)) (list-none {S = Unit {0}} (λ _. walk) (λ _ _. tt) walkRefusal (λ _ w f. inside 0 86400 ServiceField w (f .0) (f .1)) (t .walks) tt (fine .walks .1)))
-    (none-both _ _ (none-both _ _ (inside 0 4096 ServiceField (length (t .timetables)) (omega arith) (omega (arith, ts, fine .timetables .0 .1))) (rows-none (t .connections) (part (t .connections)) timetable (timetableRefusal (t .connections)) (timetable-none (t .connections)) (t .timetables) (rowed .timetables) (fine .timetables .1)))
-    (none-both _ _ (none-both _ _ (inside 0 4096 ServiceField (length (t .roads)) (omega arith) (omega (arith, rs, fine .roads .0 .1))) (rows-none (t .points) (part (t .points)) road (roadRefusal (t .points)) (road-none (t .points)) (t .roads) (rowed .roads) (fine .roads .1)))
+    (none-both _ _ (none-both _ _ (inside 0 4096 ServiceField (length (t .timetables)) (omega arith) (omega (arith, ts, fine .timetables .0 .1))) (rows-none (t .connections) (rows (t .connections)) timetable (timetableRefusal (t .connections)) (timetable-none (t .connections)) (t .timetables) (rowed .timetables) (fine .timetables .1)))
+    (none-both _ _ (none-both _ _ (inside 0 4096 ServiceField (length (t .roads)) (omega arith) (omega (arith, rs, fine .roads .0 .1))) (rows-none (t .points) (rows (t .points)) road (roadRefusal (t .points)) (road-none (t .points)) (t .roads) (rowed .roads) (fine .roads .1)))
     (none-both _ _ (inside 0 8192 ArcCount (length (t .arcs)) (joined .0 .0) (joined .0 .1)) (list-none (arc stops (serviceCount t)) left (arcRefusal stops (serviceCount t)) (arc-none stops (serviceCount t)) (t .arcs) 0 (joined .1)))))))
 
 -- what a write says

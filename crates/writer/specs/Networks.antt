@@ -19,7 +19,8 @@ use Rattle.formats.specs.Contents.{NetworkContents}
 use Rattle.formats.specs.NetworkFile.{network, left}
 use Rattle.wire.specs.Numbers.{encode}
 use Rattle.writer.specs.Emission.{answered, orElse, listRefusal, listBytes}
-use Rattle.writer.specs.Parts.{part, lies, nameRefusal, nameBytes, walkRefusal, walkBytes, arcRefusal, arcBytes, onward, timetableRefusal, timetableBytes, roadRefusal, roadBytes}
+use Rattle.meanings.specs.Spans.{rows}
+use Rattle.writer.specs.Parts.{lies, nameRefusal, nameBytes, walkRefusal, walkBytes, arcRefusal, arcBytes, onward, timetableRefusal, timetableBytes, roadRefusal, roadBytes}
 
 -- names, connections and points stand in tables of their own; a row of `stops`, `timetables` and `roads` is a part of one
 pub record NetworkTables : Type 0 where
@@ -37,7 +38,7 @@ tablesOf names stops walks connections timetables points roads arcs = record { n
 
 -- the network that the tables hold
 abbrev pub held : NetworkTables → NetworkContents
-held t = record { names = map (part (t .names)) (t .stops); walks = t .walks; timetables = map (part (t .connections)) (t .timetables); roads = map (part (t .points)) (t .roads); arcs = t .arcs }
+held t = record { names = map (rows (t .names)) (t .stops); walks = t .walks; timetables = map (rows (t .connections)) (t .timetables); roads = map (rows (t .points)) (t .roads); arcs = t .arcs }
 
 abbrev pub serviceCount : NetworkTables → ℕ
 serviceCount t = length (t .walks) + length (t .timetables) + length (t .roads)
