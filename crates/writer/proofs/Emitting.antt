@@ -17,7 +17,8 @@ use Rattle.std.specs.declared.result.Result.{Result}
 use Rattle.std.specs.declared.result.Result.the-variants.{Ok, Err}
 use Rattle.model.specs.declared.refusal.Refusal.{Refusal}
 use Rattle.model.specs.declared.tables.Span.{Span}
-use Rattle.writer.specs.Parts.{part, lies}
+use Rattle.meanings.specs.Spans.{rows}
+use Rattle.writer.specs.Parts.{lies}
 use Rattle.writer.specs.Emission.{answered, passing, orElse, outside, Emits, refusedAll, bytesAll, stateAfter}
 
 -- an answer, taken apart
@@ -191,6 +192,6 @@ pub emits-untested : (o : Option Refusal) (bytes : List ℕ) (at : ℕ) (d out :
 emits-untested o bytes at d out t k e = refused (orElse (cond t None (Some k)) o) bytes at d out k (ap (λ b. orElse (cond b None (Some k)) o) e)
 
 -- the part that a row names
-pub emits-row : {A : Type 0} (f : List A → Option Refusal) (w : List A → List ℕ) {at : ℕ} {d out : List ℕ} {r : Result ℕ Refusal} (table : List A) (row : Span) (xs : List A) (k : Refusal) → lies table row ≡ true → xs ≡ part table row →
-    Emits (f xs) (w xs) at d out r → Emits (orElse (cond (lies table row) None (Some k)) (f (part table row))) (w (part table row)) at d out r
+pub emits-row : {A : Type 0} (f : List A → Option Refusal) (w : List A → List ℕ) {at : ℕ} {d out : List ℕ} {r : Result ℕ Refusal} (table : List A) (row : Span) (xs : List A) (k : Refusal) → lies table row ≡ true → xs ≡ rows table row →
+    Emits (f xs) (w xs) at d out r → Emits (orElse (cond (lies table row) None (Some k)) (f (rows table row))) (w (rows table row)) at d out r
 emits-row f w {at} {d} {out} {r} table row xs k lie is h = emits-tested (lies table row) k lie (subst (λ l. Emits (f l) (w l) at d out r) is h)

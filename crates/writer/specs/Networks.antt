@@ -1,10 +1,10 @@
 -- A network in tables, and what the writer does with it.
 use mathlib.Core.Path.{_≡_}
-use mathlib.Core.Bool.{cond}
-use mathlib.Core.List.{List, _++_, map}
-use Prim.Native.Nat.{ℕ, _+_}
+use mathlib.Core.Bool.{true, cond}
+use mathlib.Core.List.{List, [], _∷_, _++_, map}
+use Prim.Native.Nat.{ℕ, _+_, _≤_}
 use lib.Dec.{leb, eqb}
-use lib.ListN.{length, drop}
+use lib.ListN.{length, take, drop}
 use Rattle.std.specs.declared.option.Option.{Option}
 use Rattle.std.specs.declared.option.Option.the-variants.{Some, None}
 use Rattle.std.specs.declared.result.Result.{Result}
@@ -19,7 +19,8 @@ use Rattle.formats.specs.Contents.{NetworkContents}
 use Rattle.formats.specs.NetworkFile.{network, left}
 use Rattle.wire.specs.Numbers.{encode}
 use Rattle.writer.specs.Emission.{answered, orElse, listRefusal, listBytes}
-use Rattle.writer.specs.Parts.{part, nameRefusal, nameBytes, walkRefusal, walkBytes, arcRefusal, arcBytes, onward, timetableRefusal, timetableBytes, roadRefusal, roadBytes}
+use Rattle.meanings.specs.Spans.{rows}
+use Rattle.writer.specs.Parts.{lies, nameRefusal, nameBytes, walkRefusal, walkBytes, arcRefusal, arcBytes, onward, timetableRefusal, timetableBytes, roadRefusal, roadBytes}
 
 -- names, connections and points stand in tables of their own; a row of `stops`, `timetables` and `roads` is a part of one
 pub record NetworkTables : Type 0 where
@@ -37,7 +38,7 @@ tablesOf names stops walks connections timetables points roads arcs = record { n
 
 -- the network that the tables hold
 abbrev pub held : NetworkTables → NetworkContents
-held t = record { names = map (part (t .names)) (t .stops); walks = t .walks; timetables = map (part (t .connections)) (t .timetables); roads = map (part (t .points)) (t .roads); arcs = t .arcs }
+held t = record { names = map (rows (t .names)) (t .stops); walks = t .walks; timetables = map (rows (t .connections)) (t .timetables); roads = map (rows (t .points)) (t .roads); arcs = t .arcs }
 
 abbrev pub serviceCount : NetworkTables → ℕ
 serviceCount t = length (t .walks) + length (t .timetables) + length (t .roads)
@@ -63,9 +64,23 @@ abbrev pub written : Result ℕ Refusal → List ℕ → List ℕ → List ℕ
 written (Ok n) bytes before = bytes ++ drop (length bytes) before
 written (Err k) bytes before = before
 
+-- rows that lie within a table
+abbrev pub AllLie : {A : Type 0} → List A → List Span → Type 0
+AllLie table [] = Unit {0}
+AllLie table (row ∷ rows) = (lies table row ≡ true) × AllLie table rows
+
+-- each stop has one row, and every row lies within its table
+pub record Rowed (stops : ℕ) (t : NetworkTables) : Type 0 where
+  pub count : length (t .stops) ≡ stops
+  pub names : AllLie (t .names) (t .stops)
+  pub timetables : AllLie (t .connections) (t .timetables)
+  pub roads : AllLie (t .points) (t .roads)
+
 -- a call that writes a network: refused by the first rule that is broken, then for want of room; else the file stands at the front
--- of the output, and its length is the answer
+-- of the output, and its length is the answer. What is written reads back the same, and what an accepted file holds writes back to
+-- the same bytes.
 pub record Writes (stops : ℕ) (t : NetworkTables) (before after : List ℕ) (r : Result ℕ Refusal) : Type 0 where
   pub answer : r ≡ answered (orElse (networkRefusal stops t) (cond (leb (length (network .write (held t))) (length before)) None (Some OutputShort))) (length (network .write (held t)))
   pub output : after ≡ written r (network .write (held t)) before
-  pub fine : networkRefusal stops t ≡ None → network .Fine (held t)
+  pub reads-back : (n : ℕ) → r ≡ Ok n → network .read after 0 ≡ Ok (held t, n)
+  pub writes-back : Rowed stops t → (file : List ℕ) (end : ℕ) → network .read file 0 ≡ Ok (held t, end) → end ≤ length before → (r ≡ Ok end) × (after ≡ take end file ++ drop end before)

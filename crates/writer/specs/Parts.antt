@@ -3,7 +3,7 @@ use mathlib.Core.Bool.{Bool, cond, _&&_}
 use mathlib.Core.List.{List, _++_}
 use Prim.Native.Nat.{ℕ, _+_, _-_}
 use lib.Dec.{leb, ltb, eqb}
-use lib.ListN.{length, take, drop}
+use lib.ListN.{length}
 use Rattle.std.specs.declared.option.Option.{Option}
 use Rattle.std.specs.declared.option.Option.the-variants.{Some, None}
 use Rattle.model.specs.declared.network.Arc.{Arc}
@@ -13,23 +13,21 @@ use Rattle.model.specs.declared.tables.Span.{Span}
 use Rattle.model.specs.declared.refusal.Refusal.{Refusal}
 use Rattle.model.specs.declared.refusal.Refusal.the-variants.{StopCount, NameLength, ServiceField, ArcCount, ArcField, NoSuchService, TailFalls}
 use Rattle.model.specs.Clock.{horizon}
+use Rattle.meanings.specs.Spans.{rows}
 use Rattle.formats.specs.NetworkFile.{stop, walk, connection, departed, point, reached, secondBefore, leastSecond, leastReached, passed, left}
 use Rattle.wire.specs.Numbers.{encode}
 use Rattle.writer.specs.Emission.{orElse, outside, listRefusal, listBytes}
 
--- the part of a table that a row names, and whether the row lies within the table
-abbrev pub part : {A : Type 0} → List A → Span → List A
-part table row = take (row .len) (drop (row .start) table)
-
+-- whether a row lies within a table
 abbrev pub lies : {A : Type 0} → List A → Span → Bool
 lies table row = leb (row .start) (length table) && leb (row .len) (length table - row .start)
 
 -- a stop's row
 abbrev pub nameRefusal : List ℕ → Unit {0} → Span → Option Refusal
-nameRefusal names _ row = orElse (cond (lies names row) None (Some NameLength)) (outside 1 40 NameLength (length (part names row)))
+nameRefusal names _ row = orElse (cond (lies names row) None (Some NameLength)) (outside 1 40 NameLength (length (rows names row)))
 
 abbrev pub nameBytes : List ℕ → Unit {0} → Span → List ℕ
-nameBytes names _ row = stop .write (part names row)
+nameBytes names _ row = stop .write (rows names row)
 
 abbrev pub walkRefusal : Unit {0} → ℕ → Option Refusal
 walkRefusal _ w = outside 0 86400 ServiceField w
@@ -65,13 +63,13 @@ onward _ _ = tt
 
 -- the lists of one service
 abbrev pub timetableRefusal : List Connection → Unit {0} → Span → Option Refusal
-timetableRefusal table _ row = orElse (cond (lies table row) None (Some ServiceField)) (listRefusal 1 512 ServiceField connectionRefusal departed 0 (part table row))
+timetableRefusal table _ row = orElse (cond (lies table row) None (Some ServiceField)) (listRefusal 1 512 ServiceField connectionRefusal departed 0 (rows table row))
 
 abbrev pub timetableBytes : List Connection → Unit {0} → Span → List ℕ
-timetableBytes table _ row = listBytes connectionBytes departed 0 (part table row)
+timetableBytes table _ row = listBytes connectionBytes departed 0 (rows table row)
 
 abbrev pub roadRefusal : List Point → Unit {0} → Span → Option Refusal
-roadRefusal table _ row = orElse (cond (lies table row) None (Some ServiceField)) (listRefusal 1 96 ServiceField pointRefusal passed None (part table row))
+roadRefusal table _ row = orElse (cond (lies table row) None (Some ServiceField)) (listRefusal 1 96 ServiceField pointRefusal passed None (rows table row))
 
 abbrev pub roadBytes : List Point → Unit {0} → Span → List ℕ
-roadBytes table _ row = listBytes pointBytes passed None (part table row)
+roadBytes table _ row = listBytes pointBytes passed None (rows table row)

@@ -1,0 +1,4 @@
+//! Network files that are loaded and written again.
+mod theorems;
+
+pub use theorems::accepted_files_write_back;
