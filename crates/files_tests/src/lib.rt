@@ -1,0 +1,3 @@
+//! Network files at their edges.
+#[cfg(test)]
+mod tests;
