@@ -126,23 +126,18 @@ fn perform<B: Book, R: Rule>(
 )
     ensures { λ _. ⌜ Performed (Option Label) Entry services answer automaton (ground (network .entry .stops) (now (network .entry .arcs)) (length (now (labels .entry))) (length (now (slots .entry)))) (now (planners .entry)) (now (bulletins .entry)) (now (step .entry)) (now (planners .exit)) (now (bulletins .exit)) (now (step .exit)) ⌝ }
 {
-    if step.planner >= planners.len() {
+    let at = step.planner;
+    if at >= planners.len() {
         step.reply = Reply::Idle;
         return;
     }
     match step.action {
         Action::Ask(enquiry) => {
-            let result = planners[step.planner].ask(
-                network,
-                enquiry,
-                labels,
-                slots,
-                &mut step.slip,
-            );
+            let result = planners[at].ask(network, enquiry, labels, slots, &mut step.slip);
             step.reply = Reply::Asked(result);
         }
         Action::Change(slot, change) => {
-            step.reply = change_at(&mut planners[step.planner], bulletins, slot, change);
+            step.reply = change_at(&mut planners[at], bulletins, slot, change);
         }
     }
 }
