@@ -3,12 +3,12 @@ ghost use mathlib.Core.Path.{_≡_};
 ghost use mathlib.Core.Bool.{Bool, true, false};
 ghost use Prim.Native.Nat.{ℕ, _+_, _-_, _*_, _^_, _<_, _≤_};
 ghost use lib.ListN.{length, getD, set};
-ghost use Rattle.labels.specs.Table.{better as better-than, offer as offer-of, relax-below};
+ghost use Rattle.labels.specs.Table.{offer as offer-of, relax-below};
 ghost use Rattle.model.specs.Trips.{world};
 ghost use Rattle.model.specs.declared.network.Arc.{Arc as ArcOf};
 ghost use Rattle.network.specs.Sound.{Leaving};
 ghost use Rattle.queue.specs.Contents.{contents, capacity};
-ghost use Rattle.labels.specs.Rows.{row-of, accepted, view, improves as improves-on};
+ghost use Rattle.labels.specs.Rows.{row-of, accepted, view};
 ghost use Rattle.engine.specs.Agenda.{Agenda};
 use crate::entry::Entry;
 use crate::entry::EntryRanked;
@@ -20,31 +20,6 @@ use model::Place;
 use network::Network;
 use queue::Queue;
 use rules::Rule;
-
-/// Whether the first label is strictly before the second.
-fn better(a: Label, b: Label) -> bool
-    ensures { λ r. ⌜ r ≡ better-than a b ⌝ }
-{
-    if a.second != b.second {
-        a.second < b.second
-    } else if a.legs != b.legs {
-        a.legs < b.legs
-    } else if a.arc != b.arc {
-        a.arc < b.arc
-    } else {
-        a.state < b.state
-    }
-}
-
-/// Whether a label improves on what a row has.
-fn improves(row: Option<Label>, label: Label) -> bool
-    ensures { λ r. ⌜ r ≡ improves-on row label ⌝ }
-{
-    match row {
-        Some(known) => better(label, known),
-        None => true,
-    }
-}
 
 /// What the arc `i`, which leaves the stop of `from`, offers one there with the label `label`.
 fn offer<B: Book, R: Rule>(
@@ -63,7 +38,7 @@ fn offer<B: Book, R: Rule>(
     let Some(state) = rule.next(from.state, arc.label) else {
         return None;
     };
-    let Some(second) = book.arrival(arc.service, label.second) else {
+    let Some(arrival) = book.arrival(arc.service, label.second) else {
         return None;
     };
     Some(Offer {
@@ -72,7 +47,7 @@ fn offer<B: Book, R: Rule>(
             state,
         },
         label: Label {
-            second,
+            second: arrival,
             legs: label.legs + 1,
             arc: i as u32,
             state: from.state,
@@ -93,7 +68,7 @@ fn accept(labels: &mut [Option<Label>], queue: &mut Queue<'_, Entry>, states: u3
     ensures room { λ _. ⌜ capacity (now (queue .exit)) ≡ capacity (now (queue .entry)) ⌝ }
 {
     let place = offer.at.stop as usize * states as usize + offer.at.state as usize;
-    if improves(labels[place], offer.label) {
+    if offer.label.improves(labels[place]) {
         labels[place] = Some(offer.label);
         let entry = Entry {
             second: offer.label.second,

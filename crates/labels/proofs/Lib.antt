@@ -7,3 +7,4 @@ pub mod Relaxing
 pub mod Counting
 pub mod Searching
 pub mod Tracing
+pub mod Journeys

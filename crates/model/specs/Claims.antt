@@ -85,3 +85,16 @@ Asked-is-one =
     → Asked stops count w e labels labels′ slots slots′ slip slip′ result
     → Asked stops count w e labels₂ labels₂′ slots₂ slots₂′ slip₂ slip₂′ result₂
     → (result ≡ result₂) × (slip ≡ slip₂ → slip′ ≡ slip₂′)
+
+-- what is proved of trips in every world
+pub record Theorems : Type 0 where
+  pub world-is-lawful : World-is-lawful
+  pub trip-is-two : Trip-is-two
+  pub suits-is-trip : Suits-is-trip
+  pub first-is-one : First-is-one
+  pub rank-is-one : Rank-is-one
+  pub journey-is-one : Journey-is-one
+  pub answer-is-one : Answer-is-one
+  pub waiting-never-helps : Waiting-never-helps
+  pub eager-is-trip : Eager-is-trip
+  pub journey-is-trip : Journey-is-trip

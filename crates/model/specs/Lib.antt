@@ -6,3 +6,4 @@ pub mod Trips
 pub mod Suits
 pub mod Asking
 pub mod Claims
+pub mod Journeys

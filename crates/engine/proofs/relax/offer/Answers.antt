@@ -22,5 +22,5 @@ returns-in-rest-arrival g c =
 pub returns : need.returns
 returns g c =
     offer-made (world (c .args .arcs .now) (g .B·Book .answer (c .args .book .now)) (g .R·Rule .automaton (c .args .rule .now))) (c .args .from) (c .args .label) (c .args .i)
-    (getD (c .args .arcs .now) (c .args .i) no-arc) (nth-getD (c .args .arcs .now) (c .args .i) no-arc (c .pre .size .0)) (c .in-Some .state) (c .in-Some-arrival .second) (c .pre .leaves no-arc) (c .in-Some .ensures tt)
+    (getD (c .args .arcs .now) (c .args .i) no-arc) (nth-getD (c .args .arcs .now) (c .args .i) no-arc (c .pre .size .0)) (c .in-Some .state) (c .in-Some-arrival .arrival) (c .pre .leaves no-arc) (c .in-Some .ensures tt)
     (c .in-Some-arrival .ensures tt)
