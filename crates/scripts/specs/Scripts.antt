@@ -14,6 +14,7 @@ use Rattle.model.specs.declared.enquiry.Found.{Found}
 use Rattle.model.specs.declared.network.Arc.{Arc}
 use Rattle.model.specs.declared.network.Leg.{Leg}
 use Rattle.model.specs.declared.refusal.Refusal.{Refusal}
+use Rattle.model.specs.declared.refusal.Refusal.the-variants.{NoJourney, RowsShort}
 use Rattle.model.specs.Rules.{Automaton}
 use Rattle.model.specs.Asking.{Asked}
 use Rattle.notices.specs.Notices.{handing}
@@ -229,3 +230,23 @@ pub record Ran {B R : Type 0} (L Q : Type 0) (size : B → ℕ) (answers : B →
   pub kept : (i : ℕ) (d : Planner B R) → i < length ps → Kept (getD ps i d) (getD ps′ i d)
   -- the slots hold what the replies tell
   pub slots : (j : ℕ) → j < length os → getD os′ j None ≡ held j ss′ (getD os j None)
+
+-- a step that left the label table and the queue alone, by what came of it: it was no ask, or an ask refused by one of the tests that come
+-- before the search
+abbrev pub Unsearched : Result Found Refusal → Type 0
+Unsearched (Ok f) = ⊥
+Unsearched (Err f) = (f ≡ NoJourney → ⊥) × (f ≡ RowsShort → ⊥)
+
+abbrev pub Quiet : Reply → Type 0
+Quiet Idle = Unit {0}
+Quiet (Answered r) = Unsearched r
+Quiet (Opened r) = Unit {0}
+Quiet (Shown m r) = Unit {0}
+
+-- label table and queue after a step, and after a script: as they were, where the steps left them alone
+abbrev pub TablesAfter : {L Q : Type 0} → Reply → List L → List L → List Q → List Q → Type 0
+TablesAfter reply labels labels′ slots slots′ = Quiet reply → (labels′ ≡ labels) × (slots′ ≡ slots)
+
+abbrev pub TablesKept : {L Q : Type 0} → List Step → ℕ → List L → List L → List Q → List Q → Type 0
+TablesKept ss n labels labels′ slots slots′ =
+    ((k : ℕ) (e : Step) → k < n → Quiet (getD ss k e .reply)) → (labels′ ≡ labels) × (slots′ ≡ slots)

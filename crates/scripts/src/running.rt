@@ -6,7 +6,7 @@ ghost use Rattle.labels.specs.declared.label.Label.{Label};
 ghost use Rattle.engine.specs.declared.entry.Entry.{Entry};
 ghost use Rattle.std.specs.declared.option.Option.the-variants.{Some, None};
 ghost use Rattle.scripts.specs.declared.step.Reply.the-variants.{Opened, Shown};
-ghost use Rattle.scripts.specs.Scripts.{told, back, marked, handed, Changed, ChangedAt, Performed, Ran, ground};
+ghost use Rattle.scripts.specs.Scripts.{told, back, marked, handed, Changed, ChangedAt, Performed, Ran, TablesAfter, TablesKept, ground};
 use crate::step::Action;
 use crate::step::Change;
 use crate::step::Reply;
@@ -124,25 +124,21 @@ fn perform<B: Book, R: Rule>(
     slots: &mut [Entry],
     step: &mut Step,
 )
-    ensures { λ _. ⌜ Performed (Option Label) Entry services answer automaton (ground (network .entry .stops) (now (network .entry .arcs)) (length (now (labels .entry))) (length (now (slots .entry)))) (now (planners .entry)) (now (bulletins .entry)) (now (step .entry)) (now (planners .exit)) (now (bulletins .exit)) (now (step .exit)) ⌝ }
+    ensures steps { λ _. ⌜ Performed (Option Label) Entry services answer automaton (ground (network .entry .stops) (now (network .entry .arcs)) (length (now (labels .entry))) (length (now (slots .entry)))) (now (planners .entry)) (now (bulletins .entry)) (now (step .entry)) (now (planners .exit)) (now (bulletins .exit)) (now (step .exit)) ⌝ }
+    ensures tables { λ _. ⌜ TablesAfter (now (step .exit) .reply) (now (labels .entry)) (now (labels .exit)) (now (slots .entry)) (now (slots .exit)) ⌝ }
 {
-    if step.planner >= planners.len() {
+    let at = step.planner;
+    if at >= planners.len() {
         step.reply = Reply::Idle;
         return;
     }
     match step.action {
         Action::Ask(enquiry) => {
-            let result = planners[step.planner].ask(
-                network,
-                enquiry,
-                labels,
-                slots,
-                &mut step.slip,
-            );
+            let result = planners[at].ask(network, enquiry, labels, slots, &mut step.slip);
             step.reply = Reply::Asked(result);
         }
         Action::Change(slot, change) => {
-            step.reply = change_at(&mut planners[step.planner], bulletins, slot, change);
+            step.reply = change_at(&mut planners[at], bulletins, slot, change);
         }
     }
 }
@@ -157,7 +153,8 @@ pub fn run<B: Book, R: Rule>(
     slots: &mut [Entry],
     script: &mut [Step],
 )
-    ensures { λ _. ⌜ Ran (Option Label) Entry services answer automaton (ground (network .entry .stops) (now (network .entry .arcs)) (length (now (labels .entry))) (length (now (slots .entry)))) (now (planners .entry)) (now (bulletins .entry)) (now (script .entry)) (now (planners .exit)) (now (bulletins .exit)) (now (script .exit)) ⌝ }
+    ensures steps { λ _. ⌜ Ran (Option Label) Entry services answer automaton (ground (network .entry .stops) (now (network .entry .arcs)) (length (now (labels .entry))) (length (now (slots .entry)))) (now (planners .entry)) (now (bulletins .entry)) (now (script .entry)) (now (planners .exit)) (now (bulletins .exit)) (now (script .exit)) ⌝ }
+    ensures tables { λ _. ⌜ TablesKept (now (script .exit)) (length (now (script .exit))) (now (labels .entry)) (now (labels .exit)) (now (slots .entry)) (now (slots .exit)) ⌝ }
 {
     for step in script.iter_mut() {
         perform(network, planners, bulletins, labels, slots, step);

@@ -1,6 +1,6 @@
 ghost use mathlib.Core.Path.{_≡_};
 ghost use mathlib.Core.List.{[]};
-ghost use lib.ListN.{length};
+ghost use lib.Dec.{eqb, ltb};
 ghost use Rattle.notices.specs.Notices.{place-of, notice-of, put-in, lift-from, put-refusal, lift-refusal, unless, handing};
 ghost use Rattle.notices.specs.Tables.{listed};
 use crate::notice::Notice;
@@ -50,17 +50,31 @@ impl NoticeTable {
         }
     }
 
+    /// Whether a notice stands at the index.
+    fn holds(&self, at: usize) -> bool
+        ensures { λ r. ⌜ r ≡ ltb at (now (self .entry) .len) ⌝ }
+    {
+        at < self.len
+    }
+
+    /// Whether there is no room for another notice.
+    fn is_full(&self) -> bool
+        ensures { λ r. ⌜ r ≡ eqb (now (self .entry) .len) 64 ⌝ }
+    {
+        self.len == 64
+    }
+
     /// Rewrites the notice of that service, or adds one at the end; refused where there are 64 others.
     pub fn put(&mut self, notice: Notice) -> Result<(), Refusal>
         ensures answer { λ r. ⌜ r ≡ handing tt (put-refusal notice (listed (now (self .entry)))) ⌝ }
         ensures after { λ _. ⌜ listed (now (self .exit)) ≡ unless (put-refusal notice (listed (now (self .entry)))) (put-in notice (listed (now (self .entry)))) (listed (now (self .entry))) ⌝ }
     {
         let at = self.place(notice.service);
-        if at < self.len {
+        if self.holds(at) {
             self.items[at].amend(&notice);
             return Ok(());
         }
-        if self.len == 64 {
+        if self.is_full() {
             return Err(Refusal::NoticesFull);
         }
         self.items[at] = notice;
