@@ -74,20 +74,20 @@ fn every_truncation_ends_early() -> Result<(), Fail> {
 
 #[test]
 fn faults() -> Result<(), Fail> {
-    // the number of states, an end mark, a step's state, label and next state
-    check(changed(0, 0, 12, 0))?;
-    check(changed(0, 17, 12, 0))?;
-    check(changed(2, 2, 12, 2))?;
-    check(changed(4, 2, 12, 4))?;
-    check(changed(8, 6, 12, 8))?;
-    check(changed(12, 2, 12, 12))?;
-    // a step like the one before, and one that falls behind it
-    check(changed(8, 0, 13, 7))?;
-    check(changed(10, 0, 13, 10))
-}
-
-#[test]
-fn numbers() -> Result<(), Fail> {
+    // the number of states, an end mark, a step's state, label and next state; a step like the one before, and one that falls
+    let changes = [
+        (0, 0, 12, 0),
+        (0, 17, 12, 0),
+        (2, 2, 12, 2),
+        (4, 2, 12, 4),
+        (8, 6, 12, 8),
+        (12, 2, 12, 12),
+        (8, 0, 13, 7),
+        (10, 0, 13, 10),
+    ];
+    for (at, byte, number, place) in &changes {
+        check(changed(*at, *byte, *number, *place))?;
+    }
     // a last group of 0, a number above 32 bits, a number cut off, and as many steps as 32 bits hold
     check(refused(&[0x80, 0], 0, 27, 0, Layer::Number))?;
     check(refused(&[1, 1, 0x80, 0], 0, 27, 2, Layer::Number))?;
