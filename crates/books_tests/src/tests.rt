@@ -38,6 +38,30 @@ fn answers<B: Book>(book: &B, table: &[(u32, u32, Option<u32>)]) -> bool {
     true
 }
 
+// The first fault of a timetable book's tables.
+fn timetables_fault<'a>(connections: &'a [Connection], spans: &'a [Span]) -> Option<BookFault> {
+    match Timetables::empty().lay(connections, spans) {
+        Ok(()) => None,
+        Err(fault) => Some(fault),
+    }
+}
+
+// The first fault of a road book's tables.
+fn roads_fault<'a>(points: &'a [Point], spans: &'a [Span]) -> Option<BookFault> {
+    match Roads::empty().lay(points, spans) {
+        Ok(()) => None,
+        Err(fault) => Some(fault),
+    }
+}
+
+// Whether the fault is this number of row 1 of service 1.
+fn in_row_1(fault: Option<BookFault>, field: Field) -> bool {
+    match field {
+        Field::Departure => matches!(fault, Some(BookFault::Row(1, 1, Field::Departure))),
+        Field::Arrival => matches!(fault, Some(BookFault::Row(1, 1, Field::Arrival))),
+    }
+}
+
 #[test]
 fn walks() -> Result<(), Fail> {
     let times = [0, 300, 86_400];
@@ -76,6 +100,8 @@ fn timetables() -> Result<(), Fail> {
     let spans = [span(0, 2), span(2, 2), span(3, 1), span(4, 2)];
     let mut book = Timetables::empty();
     check(book.lay(&connections, &spans).is_ok())?;
+    let outside = [span(5, 2)];
+    check(book.lay(&connections, &outside).is_err())?;
     check(book.count() == 4)?;
     check(answers(
         &book,
@@ -97,29 +123,48 @@ fn timetables() -> Result<(), Fail> {
 }
 
 #[test]
-fn timetable_faults() -> Result<(), Fail> {
+fn rows_at_fault() -> Result<(), Fail> {
+    let spans = [span(0, 1), span(0, 2)];
+    let connections = [
+        (connection(599, 2_400), Field::Departure),
+        (connection(172_801, 172_801), Field::Departure),
+        (connection(900, 899), Field::Arrival),
+        (connection(900, 172_801), Field::Arrival),
+    ];
+    for (row, field) in &connections {
+        let fault = timetables_fault(&[connection(600, 2_400), *row], &spans);
+        check(in_row_1(fault, *field))?;
+    }
+    let points = [
+        (point(5, 600), Field::Departure),
+        (point(172_801, 0), Field::Departure),
+        (point(6, 598), Field::Arrival),
+        (point(172_800, 4_294_967_295), Field::Arrival),
+    ];
+    for (row, field) in &points {
+        let fault = roads_fault(&[point(5, 600), *row], &spans);
+        check(in_row_1(fault, *field))?;
+    }
+    Ok(())
+}
+
+#[test]
+fn lists_at_fault() -> Result<(), Fail> {
     let equal = [connection(5, 9); 513];
-    let full = [span(0, 512)];
+    let full = [span(0, 1), span(1, 512)];
     let mut book = Timetables::empty();
     check(book.lay(&equal, &full).is_ok())?;
-    let long = [span(1, 512), span(0, 513)];
-    check(matches!(book.lay(&equal, &long), Err(BookFault::ListLength(1))))?;
-    let none = [span(0, 0)];
-    check(matches!(book.lay(&equal, &none), Err(BookFault::ListLength(0))))?;
-    let outside = [span(512, 1), span(2, 512)];
-    check(matches!(book.lay(&equal, &outside), Err(BookFault::ListOutside(1))))?;
-    let late = [connection(0, 172_800), connection(1, 172_801)];
-    let two = [span(0, 1), span(0, 2)];
-    check(matches!(
-        book.lay(&late, &two),
-        Err(BookFault::Row(1, 1, Field::Arrival))
-    ))?;
-    let falling = [connection(1, 1), connection(0, 0)];
-    check(matches!(
-        book.lay(&falling, &two),
-        Err(BookFault::Row(1, 1, Field::Departure))
-    ))?;
-    check(answers(&book, &[(0, 5, Some(9)), (0, 6, None), (1, 5, None)]))
+    for list in &[span(0, 0), span(0, 513)] {
+        let fault = timetables_fault(&equal, &[span(0, 1), *list]);
+        check(matches!(fault, Some(BookFault::ListLength(1))))?;
+    }
+    for list in &[span(2, 512), span(514, 1)] {
+        let fault = timetables_fault(&equal, &[span(0, 1), *list]);
+        check(matches!(fault, Some(BookFault::ListOutside(1))))?;
+    }
+    let fault = roads_fault(&[point(0, 0)], &[span(0, 97)]);
+    check(matches!(fault, Some(BookFault::ListLength(0))))?;
+    check(answers(&book, &[(1, 5, Some(9)), (1, 6, None), (2, 5, None)]))
 }
 
 #[test]
@@ -128,6 +173,8 @@ fn roads() -> Result<(), Fail> {
     let spans = [span(0, 2), span(2, 1)];
     let mut book = Roads::empty();
     check(book.lay(&points, &spans).is_ok())?;
+    let outside = [span(2, 2)];
+    check(book.lay(&points, &outside).is_err())?;
     check(answers(
         &book,
         &[
@@ -143,33 +190,6 @@ fn roads() -> Result<(), Fail> {
             (2, 0, None),
         ],
     ))
-}
-
-#[test]
-fn road_faults() -> Result<(), Fail> {
-    let two = [span(0, 1), span(0, 2)];
-    let mut book = Roads::empty();
-    let level = [point(5, 5), point(5, 5)];
-    check(matches!(
-        book.lay(&level, &two),
-        Err(BookFault::Row(1, 1, Field::Departure))
-    ))?;
-    let overtaking = [point(5, 5), point(6, 3)];
-    check(matches!(
-        book.lay(&overtaking, &two),
-        Err(BookFault::Row(1, 1, Field::Arrival))
-    ))?;
-    let far = [point(172_800, 4_294_967_295)];
-    let one = [span(0, 1)];
-    check(matches!(
-        book.lay(&far, &one),
-        Err(BookFault::Row(0, 0, Field::Arrival))
-    ))?;
-    let long = [span(0, 97)];
-    check(matches!(book.lay(&far, &long), Err(BookFault::ListLength(0))))?;
-    let none: [Span; 0] = [];
-    check(book.lay(&far, &none).is_ok())?;
-    check(book.count() == 0)
 }
 
 #[test]
