@@ -1,0 +1,3 @@
+//! The books at their edges.
+#[cfg(test)]
+mod tests;
