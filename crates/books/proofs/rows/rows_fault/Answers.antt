@@ -8,7 +8,7 @@ returns-in-Some g c =
 
 pub loop-place-preserved : goal.loop-place-preserved
 loop-place-preserved g c =
-    c.loop-place.invariant ∙ row_fault_later g.R.Row.tested c.args.service c.loop-place.before c.args.list.now c.loop-place.place c.index-list-place.result c.index-list-place.is c.loop-place-test.true (sym c.test.ensures ∙ c.in-default.is)
+    c.loop-place.invariant ∙ row_fault_later g.R.Row.tested c.args.service c.loop-place.before c.args.list.now c.loop-place.place c.index-list-place.result c.index-list-place.is c.loop-place-test.true (sym c.test.ensures ∙ c.in_default.is)
 
 pub returns : goal.returns
 returns g c =

@@ -7,8 +7,8 @@ pub returns-then-departed : goal.returns-then-departed
 returns-then-departed c =
     sym (ap (λ l. least (arrivals l)) (none_caught c.args.list.now c.args.coming (c.departed.ensures.0 c.if-departed.true)))
 
-pub least-arrival-requires : goal.least-arrival-requires
-least-arrival-requires c =
+pub least_arrival-requires : goal.least_arrival-requires
+least_arrival-requires c =
     let list = c.args.list.now in
     record {
       rising = rw c.departing.ensures (rising_caught list c.args.coming c.requires.rising);

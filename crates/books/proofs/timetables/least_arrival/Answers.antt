@@ -4,9 +4,9 @@ use Rattle.meanings.proofs.Timetables.{least_more}
 use Rattle.books.proofs.Departing.{least_found}
 use Rattle.books.proofs.timetables.least_arrival.Goals as goal
 
-pub returns-then-arrived-by : goal.returns-then-arrived-by
-returns-then-arrived-by c =
-    least_found c.args.list.now c.requires.rising c.requires.forward c.loop-connection.connection-index c.loop-connection-test.true c.loop-connection.best c.loop-connection.invariant (sym c.arrived_by.ensures ∙ c.if-arrived-by.true)
+pub returns-then-arrived_by : goal.returns-then-arrived_by
+returns-then-arrived_by c =
+    least_found c.args.list.now c.requires.rising c.requires.forward c.loop-connection.connection-index c.loop-connection-test.true c.loop-connection.best c.loop-connection.invariant (sym c.arrived_by.ensures ∙ c.if-arrived_by.true)
 
 pub loop-connection-preserved : goal.loop-connection-preserved
 loop-connection-preserved c =

@@ -11,8 +11,8 @@ pub loop-hole-preserved : goal.loop-hole-preserved
 loop-hole-preserved g c =
     let s = c.loop-hole.slots in
     let hole : ℕ = c.loop-hole.hole in
-    let best = c.least-child-child.ensures in
-    let child : ℕ = c.least-child-child.result in
+    let best = c.least_child-child.ensures in
+    let child : ℕ = c.least_child-child.result in
     let v = c.index-slots-child.result in
     let in' : hole < length s = omega (arith, c.loop-hole.invariant.0) in
     let in'' : child < length s = omega (arith, best.below) in (

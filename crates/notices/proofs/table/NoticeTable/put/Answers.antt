@@ -15,32 +15,32 @@ returns-then-holds c =
       after = done (put_in c.args.notice (listed t)) (listed t) none (put_over t.items t.len le c.args.notice c.place-at.result _ c.place-at.ensures (ltb-true c.place-at.result t.len (sym c.if-holds.ensures)) c.amend.ensures);
     }
 
-pub returns-then-is-full : goal.returns-then-is-full
-returns-then-is-full c =
+pub returns-then-is_full : goal.returns-then-is_full
+returns-then-is_full c =
     let t = c.args.self.now in
     let le : t.len ≤ length t.items = omega (arith, t.few, t.whole) in
-    let some = none_fits t.items t.len le c.args.notice c.place-at.result c.place-at.ensures (ltb-false c.place-at.result t.len (sym c.if-holds.ensures)) (eqb-true t.len 64 (sym c.if-is-full.ensures)) in
+    let some = none_fits t.items t.len le c.args.notice c.place-at.result c.place-at.ensures (ltb-false c.place-at.result t.len (sym c.if-holds.ensures)) (eqb-true t.len 64 (sym c.if-is_full.ensures)) in
     record {
       answer = sym (ap (handing tt) some);
       after = undone (put_in c.args.notice (listed t)) (listed t) some;
     }
 
-pub offset-bounds-self-at-2 : goal.offset-bounds-self-at-2
-offset-bounds-self-at-2 c =
+pub offset_bounds-self-at-2 : goal.offset_bounds-self-at-2
+offset_bounds-self-at-2 c =
     let t = c.args.self.now in
-    omega (arith, room_at t.items t.len (omega (arith, t.few, t.whole)) c.args.notice.service c.place-at.result c.place-at.ensures t.few (eqb-false t.len 64 (sym c.if-is-full.ensures)))
+    omega (arith, room_at t.items t.len (omega (arith, t.few, t.whole)) c.args.notice.service c.place-at.result c.place-at.ensures t.few (eqb-false t.len 64 (sym c.if-is_full.ensures)))
 
 pub bounds-self-at-2 : goal.bounds-self-at-2
 bounds-self-at-2 c =
     let t = c.args.self.now in
-    room_at t.items t.len (omega (arith, t.few, t.whole)) c.args.notice.service c.place-at.result c.place-at.ensures t.few (eqb-false t.len 64 (sym c.if-is-full.ensures))
+    room_at t.items t.len (omega (arith, t.few, t.whole)) c.args.notice.service c.place-at.result c.place-at.ensures t.few (eqb-false t.len 64 (sym c.if-is_full.ensures))
 
 pub returns : goal.returns
 returns c =
     let t = c.args.self.now in
     let le : t.len ≤ length t.items = omega (arith, t.few, t.whole) in
-    let none = last_fits t.items t.len le c.args.notice c.place-at.result c.place-at.ensures (ltb-false c.place-at.result t.len (sym c.if-holds.ensures)) (omega (arith, t.few, eqb-false t.len 64 (sym c.if-is-full.ensures))) in
+    let none = last_fits t.items t.len le c.args.notice c.place-at.result c.place-at.ensures (ltb-false c.place-at.result t.len (sym c.if-holds.ensures)) (omega (arith, t.few, eqb-false t.len 64 (sym c.if-is_full.ensures))) in
     record {
       answer = sym (ap (handing tt) none);
-      after = done (put_in c.args.notice (listed t)) (listed t) none (put_last t.items t.len le c.args.notice c.place-at.result c.place-at.ensures (ltb-false c.place-at.result t.len (sym c.if-holds.ensures)) (omega (arith, t.few, t.whole, eqb-false t.len 64 (sym c.if-is-full.ensures))));
+      after = done (put_in c.args.notice (listed t)) (listed t) none (put_last t.items t.len le c.args.notice c.place-at.result c.place-at.ensures (ltb-false c.place-at.result t.len (sym c.if-holds.ensures)) (omega (arith, t.few, t.whole, eqb-false t.len 64 (sym c.if-is_full.ensures))));
     }

@@ -3,14 +3,14 @@ use Rattle.wire.proofs.At.{of_rest, number_ok, number_err, number_within}
 use Rattle.wire.proofs.Steps.{reads_by_ok, reads_by_err}
 use Rattle.wire.proofs.reader.Reader.number.Goals as goal
 
-pub overflow-add-self : goal.overflow-add-self
-overflow-add-self c =
+pub overflow_add-self : goal.overflow_add-self
+overflow_add-self c =
     let r = c.args.self.now in
     let w = number_within _ _ _ _ (of_rest r.bytes.now r.at _ _ c.decoded.ensures c.in-Ok.is) r.within in
     search rules
 
-pub invariant-of-self : goal.invariant-of-self
-invariant-of-self c =
+pub invariant_of-self : goal.invariant_of-self
+invariant_of-self c =
     let r = c.args.self.now in
     (number_within _ _ _ _ (of_rest r.bytes.now r.at _ _ c.decoded.ensures c.in-Ok.is) r.within, tt)
 
