@@ -1,9 +1,8 @@
 -- Numbers at a place of a file.
-use Rattle.std.proofs.Common.{◌≡◌, ℕ, ◌+◌, ◌-◌, ◌≤◌, List, ◌++◌, length, take, drop, Ok, Err, Result, sym, refl, ap, ◌∙◌, arith, length-append, length-drop, take_all}
+use Rattle.std.proofs.Common.{◌≡◌, ℕ, ◌+◌, ◌-◌, ◌≤◌, List, length, take, drop, Ok, Err, sym, ap, ◌∙◌, arith, length-append, length-drop, take_all}
 use Rattle.model.specs.declared.refusal.Refusal.{Refusal}
 use Rattle.wire.specs.Numbers.{Decoded, encode, decode}
-use Rattle.wire.specs.declared.fault.Fault.{Fault}
-use Rattle.wire.specs.Places.{Step, value_of, place_after, placed, number_at, wrong}
+use Rattle.wire.specs.Places.{placed, number_at, wrong}
 use Rattle.wire.proofs.Codec.{canonical}
 
 pub number_ok : (bs : List ℕ) (p n m : ℕ) → decode (drop p bs) ≡ Ok (n, m) → number_at bs p ≡ Ok (n, p + m)

@@ -1,9 +1,9 @@
 -- What a call read, put together from what its parts read.
-use Rattle.std.proofs.Common.{◌≡◌, ℕ, Bool, true, false, cond, List, Ok, Err, Result, sym, refl, ap, ◌∙◌}
+use Rattle.std.proofs.Common.{◌≡◌, Bool, true, false, cond, Ok, Err, Result, sym, ap, ◌∙◌}
 use Rattle.model.specs.declared.refusal.Refusal.{Refusal}
 use Rattle.wire.specs.declared.fault.Fault.{Fault}
 use Rattle.wire.specs.declared.reader.Reader.{Reader}
-use Rattle.wire.specs.Places.{Step, wrong}
+use Rattle.wire.specs.Places.{wrong}
 use Rattle.wire.specs.Readers.{file, Reads}
 use Rattle.wire.specs.Grammar.{Format, and_then, both, mapped, checked}
 use Rattle.wire.proofs.Steps.{reads_ok, reads_err, reads_by_ok, reads_by_err}

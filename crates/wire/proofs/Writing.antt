@@ -1,5 +1,5 @@
 -- Writing a number, a group at a time, and what is written at a place.
-use Rattle.std.proofs.Common.{◌≡◌, ℕ, zero, suc, ◌+◌, ◌-◌, ◌/◌, ◌%◌, ◌^◌, ◌<◌, ◌≤◌, true, false, cond, ltb, List, [], ◌∷◌, ◌++◌, length, get_or, take, drop, set, sym, refl, ap, ◌∙◌, subst, ap₂, add-zero, add-one, arith, length-append, length-drop, get_or-drop, drop-cons, drop-drop}
+use Rattle.std.proofs.Common.{◌≡◌, ℕ, zero, suc, ◌+◌, ◌-◌, ◌/◌, ◌%◌, ◌^◌, ◌<◌, ◌≤◌, cond, ltb, List, [], ◌∷◌, ◌++◌, length, get_or, drop, set, sym, refl, ap, ◌∙◌, subst, ap₂, add-zero, add-one, arith, length-append, length-drop, get_or-drop, drop-drop}
 use lib.Seq.{paste, paste-zero, paste-suc, length-paste}
 use Rattle.std.proofs.lemmas.Bool.{le-leb, lt-leb, cond_both}
 use Rattle.std.proofs.lemmas.Slice.{put_mid-paste}

@@ -1,4 +1,4 @@
-use Rattle.std.proofs.Common.{◌≡◌, ℕ, ◌-◌, ◌/◌, ◌<◌, length, get_or, set, sym, ◌∙◌, arith}
+use Rattle.std.proofs.Common.{ℕ, ◌-◌, ◌/◌, ◌<◌, length, get_or, set, sym, ◌∙◌, arith}
 use Rattle.std.proofs.lemmas.List.{get_or_default}
 use Rattle.queue.proofs.Heaps.{rising_steps, rising_rests, rising_tops, hole_swaps, hole_test}
 use Rattle.queue.proofs.Shuffles.{sifted_none, sifted_hole}

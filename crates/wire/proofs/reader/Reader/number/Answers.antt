@@ -12,7 +12,7 @@ overflow_add-self c =
 pub invariant_of-self : goal.invariant_of-self
 invariant_of-self c =
     let r = c.args.self.now in
-    (number_within _ _ _ _ (of_rest r.bytes.now r.at _ _ c.decoded.ensures c.in-Ok.is) r.within, tt)
+    record { within = number_within _ _ _ _ (of_rest r.bytes.now r.at _ _ c.decoded.ensures c.in-Ok.is) r.within }
 
 pub returns-in-Ok : goal.returns-in-Ok
 returns-in-Ok c =
