@@ -1,5 +1,5 @@
 -- A table whose front is a list, and which holds none behind it.
-use Rattle.std.proofs.Common.{◌≡◌, ℕ, ◌<◌, ◌≤◌, List, length, get_or, replicate, Some, None, Option, sym, refl, ap, ◌∙◌, ⊎_elim, arith}
+use Rattle.std.proofs.Common.{◌≡◌, ℕ, ◌<◌, ◌≤◌, List, length, get_or, replicate, None, Option, sym, ◌∙◌, ⊎_elim, arith}
 use lib.ListN.{get_or-replicate, length-replicate, get_or-eq_default}
 use Rattle.std.proofs.lemmas.Bool.{cases_lt}
 use Rattle.automata.specs.Tables.{Closed}

@@ -1,4 +1,5 @@
 //! Rules on modes: what a rule is, and the rules that there are.
+#![tactic(auto)]
 
 mod boarding;
 mod fault;

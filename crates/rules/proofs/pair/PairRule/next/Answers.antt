@@ -1,4 +1,4 @@
-use Rattle.std.proofs.Common.{◌≡◌, ◌+◌, ◌*◌, ◌<◌, sym, ◌∙◌, arith}
+use Rattle.std.proofs.Common.{◌+◌, ◌*◌, ◌<◌, sym, ◌∙◌, arith}
 use Rattle.automata.proofs.PairLaws.{both_below}
 use Rattle.rules.proofs.pair.PairRule.next.Given.{Over}
 use Rattle.rules.proofs.pair.PairRule.next.Goals as goal

@@ -4,7 +4,7 @@ use Rattle.rules.proofs.Filled.{closed_filled}
 use Rattle.rules.proofs.table.TableRule.new.Goals as goal
 
 pub invariant_of-result : goal.invariant_of-result
-invariant_of-result c = (omega arith, (omega arith, (closed_filled c.args.states 96 c.args.next.now _ c.in_default.ensures c.put_front.ensures.front c.put_front.ensures.rest, tt)))
+invariant_of-result c = record { some = omega arith; few = omega arith; closed = closed_filled c.args.states 96 c.args.next.now _ c.in_default.ensures c.put_front.ensures.front c.put_front.ensures.rest }
 
 pub returns : goal.returns
 returns c =
