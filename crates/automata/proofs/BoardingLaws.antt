@@ -1,8 +1,8 @@
 -- The automaton that counts boardings keeps the laws of a rule, and accepts just the words with few enough of them.
-use Rattle.std.proofs.Common.{◌≡◌, ℕ, ◌+◌, ◌<◌, ◌≤◌, Bool, true, false, cond, ◌&&◌, ltb, leb, List, [], ◌∷◌, Some, None, Option, sym, refl, ap, ◌∙◌, arith}
+use Rattle.std.proofs.Common.{◌≡◌, ℕ, ◌+◌, ◌<◌, ◌≤◌, Bool, true, false, cond, ◌&&◌, ltb, leb, List, [], ◌∷◌, Some, None, Option, ap, ◌∙◌, arith}
 use Rattle.std.proofs.lemmas.Bool.Decides.{nat_tests}
 use Rattle.std.proofs.lemmas.Bool.{le-leb}
-use Rattle.model.specs.Rules.{Automaton, LawfulRule, Accepts, label_count, leads}
+use Rattle.model.specs.Rules.{LawfulRule, label_count, leads}
 use Rattle.automata.specs.Words.{Labels, AcceptsJust}
 use Rattle.automata.specs.Boardings.{boards, boardings, boarded, AtMost}
 use Rattle.automata.proofs.Leading.{onward_some}

@@ -1,5 +1,5 @@
 -- Where the steps of a word lead.
-use Rattle.std.proofs.Common.{◌≡◌, ℕ, ◌<◌, ◌≤◌, Bool, true, false, List, [], ◌∷◌, Some, None, Decides, Option, sym, refl, ap, ◌∙◌, arith}
+use Rattle.std.proofs.Common.{◌≡◌, ℕ, ◌<◌, Bool, false, List, [], ◌∷◌, Some, None, Decides, Option, sym, refl, ap, ◌∙◌, arith}
 use Rattle.model.specs.Rules.{Automaton, LawfulRule, Accepts, onward, leads}
 
 -- what led on to a value

@@ -1,9 +1,9 @@
 -- A pair of rules keeps the laws of a rule; one that fits accepts just the words of both, and one that does not fit accepts none.
-use Rattle.std.proofs.Common.{◌≡◌, ℕ, ◌+◌, ◌*◌, ◌/◌, ◌%◌, ◌<◌, ◌≤◌, Bool, true, false, cond, ◌&&◌, leb, List, [], ◌∷◌, Some, None, Option, sym, refl, ap, ◌∙◌, subst, ⊎_elim, mul_comm, arith}
+use Rattle.std.proofs.Common.{◌≡◌, ℕ, ◌+◌, ◌*◌, ◌/◌, ◌%◌, ◌<◌, ◌≤◌, Bool, true, false, cond, ◌&&◌, leb, List, [], ◌∷◌, Some, None, Option, sym, refl, ap, ◌∙◌, ⊎_elim, mul_comm, arith}
 use Rattle.std.proofs.lemmas.Nat.{mul-le, mul-add-lt, div-mul-add, mod-mul-add, le-div}
 use Rattle.std.proofs.lemmas.Bool.{cases_lt}
 use Rattle.std.proofs.lemmas.Bool.Decides.{nat_tests}
-use Rattle.model.specs.Rules.{Automaton, LawfulRule, Accepts, onward, leads}
+use Rattle.model.specs.Rules.{Automaton, LawfulRule, onward, leads}
 use Rattle.automata.specs.Words.{AcceptsJust}
 use Rattle.automata.specs.Pairs.{both, most_pair_states, pair_fits, paired, AcceptedByBoth, PairStateExamples}
 use Rattle.automata.proofs.Leading.{leads_below}

@@ -1,5 +1,5 @@
 -- Boardings, and the automaton that counts them up to a limit.
-use Rattle.std.specs.Prelude.{ℕ, ◌+◌, ◌≤◌, Bool, true, false, cond, ◌&&◌, ◌||◌, List, [], ◌∷◌, Some, None, Option, ◌==◌, nat_le, nat_lt}
+use Rattle.std.specs.Prelude.{ℕ, ◌+◌, ◌≤◌, Bool, cond, ◌&&◌, ◌||◌, List, [], ◌∷◌, Some, None, ◌==◌, nat_le, nat_lt}
 use Rattle.model.specs.Rules.{Automaton, label_count}
 use Rattle.automata.specs.Words.{Labels}
 

@@ -1,5 +1,5 @@
 -- Two automata that read the same word side by side.
-use Rattle.std.specs.Prelude.{◌≡◌, ℕ, ◌+◌, ◌*◌, ◌/◌, ◌%◌, Bool, true, false, cond, ◌&&◌, List, Some, None, Option, nat_le}
+use Rattle.std.specs.Prelude.{◌≡◌, ℕ, ◌+◌, ◌*◌, ◌/◌, ◌%◌, Bool, false, cond, ◌&&◌, List, Some, None, Option, nat_le}
 use Rattle.model.specs.Rules.{Automaton, Accepts}
 
 -- the state of a pair for states i and j, where the second has k states

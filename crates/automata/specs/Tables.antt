@@ -1,5 +1,5 @@
 -- The automaton of a table: for each state a next state or none by label, six in a row, and an end mark.
-use Rattle.std.specs.Prelude.{◌≡◌, ℕ, ◌+◌, ◌*◌, ◌<◌, ◌≤◌, Bool, true, false, cond, ◌&&◌, List, Some, None, Option, nat_lt, slice_index_or}
+use Rattle.std.specs.Prelude.{◌≡◌, ℕ, ◌+◌, ◌*◌, ◌<◌, Bool, false, cond, ◌&&◌, List, Some, None, Option, nat_lt, slice_index_or}
 use Rattle.model.specs.Rules.{Automaton, label_count}
 
 -- k states with these steps and end marks; what stands past the rows of the states does not count

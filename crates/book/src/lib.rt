@@ -1,4 +1,6 @@
 //! What a service book is, and books made of books.
+#![tactic(auto)]
+
 mod bank;
 mod book;
 mod either;

@@ -1,5 +1,5 @@
 -- Tables have no fault if and only if they are sound.
-use Rattle.std.proofs.Common.{◌≡◌, ℕ, zero, suc, ◌+◌, ◌<◌, ◌≤◌, Bool, true, false, ◌&&◌, ltb, leb, List, [], ◌∷◌, length, get_or, Some, None, Option, refl, subst, add-one, arith}
+use Rattle.std.proofs.Common.{◌≡◌, ℕ, zero, suc, ◌+◌, ◌<◌, ◌≤◌, Bool, true, false, ◌&&◌, List, [], ◌∷◌, length, get_or, Some, None, Option, refl, subst, add-one, arith}
 use native.Mathlib.Numerals.{unary_clauses}
 use Rattle.std.proofs.lemmas.Bool.{leb-true, ltb-true, le-leb, lt-ltb, and_parts, and_from}
 use Rattle.model.specs.Clock.{horizon}
@@ -8,15 +8,13 @@ use Rattle.model.specs.declared.tables.Point.{Point}
 use Rattle.model.specs.declared.tables.Span.{Span}
 use Rattle.meanings.specs.Spans.{rows, no_span, most_services, Fits}
 use Rattle.meanings.specs.Walks.{longest_walk, SoundWalks}
-use Rattle.meanings.specs.Timetables as timetables
 use Rattle.meanings.specs.Timetables.{no_connection, most_connections, SoundTimetables}
-use Rattle.meanings.specs.Roads as roads
 use Rattle.meanings.specs.Roads.{no_point, reached, most_points, SoundRoads}
-use Rattle.books.specs.Faults.{unless, or_else, first_fault, count_fault, walk_fault, walks_fault, departed, connection_fault, above, arrived, point_fault, in_row, rows_fault, list_fault, lists_fault, timetables_fault, roads_fault}
+use Rattle.books.specs.Faults.{unless, or_else, first_fault, walk_fault, walks_fault, departed, connection_fault, above, arrived, point_fault, in_row, rows_fault, list_fault, lists_fault, timetables_fault, roads_fault}
 use Rattle.books.specs.declared.fault.Field.{Field}
 use Rattle.books.specs.declared.fault.Field.TheVariants.{Departure, Arrival}
 use Rattle.books.specs.declared.fault.BookFault.{BookFault}
-use Rattle.books.specs.declared.fault.BookFault.TheVariants.{TooManyServices, WalkTooLong, ListLength, ListOutside, Row}
+use Rattle.books.specs.declared.fault.BookFault.TheVariants.{TooManyServices, WalkTooLong, ListLength, ListOutside}
 
 -- ---- one fault and the next
 

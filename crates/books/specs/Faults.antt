@@ -1,7 +1,7 @@
 -- What is at fault in the tables of service books. Tables are tested in the order of a file, and the first fault counts: the count
 -- of services; then for each service in turn its walk, or its list's length, the list's place in the table, and the rows of the
 -- list in turn.
-use Rattle.std.specs.Prelude.{ℕ, ◌+◌, Bool, true, false, cond, ◌&&◌, List, [], ◌∷◌, length, Some, None, Ok, Err, Option, Result, nat_le, nat_lt}
+use Rattle.std.specs.Prelude.{ℕ, ◌+◌, Bool, true, cond, ◌&&◌, List, [], ◌∷◌, length, Some, None, Ok, Err, Option, Result, nat_le, nat_lt}
 use Rattle.model.specs.Clock.{horizon}
 use Rattle.model.specs.declared.refusal.Refusal.{Refusal}
 use Rattle.model.specs.declared.refusal.Refusal.TheVariants.{ServiceField}

@@ -1,4 +1,6 @@
 //! Walk, timetable and road books over lent tables.
+#![tactic(auto)]
+
 mod examples;
 mod fault;
 mod roads;

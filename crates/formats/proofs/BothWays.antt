@@ -1,5 +1,5 @@
 -- Both ways round, for every lawful format.
-use Rattle.std.proofs.Common.{◌≡◌, ℕ, ◌+◌, ◌-◌, List, ◌++◌, length, take, drop, sym, refl, ap, ◌∙◌, arith, take_at}
+use Rattle.std.proofs.Common.{◌-◌, ◌++◌, length, take, drop, sym, ap, ◌∙◌, arith, take_at}
 use lib.Seq.{drop-append_seam}
 use Rattle.wire.specs.Grammar.{Format, LawfulFormat}
 use Rattle.formats.specs.Theorems.{ReadsBack, WritesBack}

@@ -1,11 +1,10 @@
 -- The laws of the network file, part by part.
-use Rattle.std.proofs.Common.{◌≡◌, ℕ, ◌+◌, ◌-◌, ◌^◌, ◌<◌, ◌≤◌, leb, List, length, Some, None, Option, refl, ap, arith, lit<}
+use Rattle.std.proofs.Common.{◌≡◌, ℕ, ◌+◌, ◌-◌, ◌^◌, ◌≤◌, leb, length, Some, None, Option, refl, ap, arith, lit<}
 use Rattle.model.specs.declared.tables.Point.{Point}
 use Rattle.model.specs.declared.refusal.Refusal.TheVariants.{OtherForm, StopCount, NameLength, ServiceField, ArcCount, ArcField, NoSuchService, TailFalls}
 use Rattle.model.specs.Clock.{horizon}
-use Rattle.wire.specs.Grammar.{Format, LawfulFormat, ranged, below, since, both}
+use Rattle.wire.specs.Grammar.{LawfulFormat, ranged, below, since, both}
 use Rattle.wire.proofs.Laws.{ranged_lawful, below_lawful, since_lawful, exactly_lawful, text_lawful, checked_lawful, both_lawful, mapped_lawful, counted_lawful, plain_lawful}
-use Rattle.formats.specs.Contents.{NetworkContents}
 use Rattle.formats.specs.NetworkFile.{form, stop, stop_count, stops, run_count, walk, walks, times, connection_of, times_of, Departs, connection, departed, connection_count, timetable, timetables, second_before, least_second, least_reached, seconds, reached, point_of, seconds_of, Rises, point, passed, point_count, road, roads, fields, arc_of, fields_of, Joins, any_arc, arc, left, arc_count, arcs, runs, contents_of, runs_of, FineNetwork, network}
 
 pub stop_lawful : LawfulFormat stop

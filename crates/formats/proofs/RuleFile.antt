@@ -1,10 +1,9 @@
 -- The laws of the rule file, part by part.
-use Rattle.std.proofs.Common.{◌≡◌, ℕ, zero, suc, ◌^◌, ◌<◌, ◌≤◌, Bool, true, false, List, length, Some, None, Option, refl, arith, lit<}
+use Rattle.std.proofs.Common.{◌≡◌, ℕ, zero, suc, ◌^◌, ◌≤◌, Bool, true, false, length, None, Option, refl, arith, lit<}
 use Rattle.model.specs.declared.refusal.Refusal.TheVariants.{RuleField, StepsNotAscending}
-use Rattle.wire.specs.Grammar.{Format, LawfulFormat, number, ranged, below, both}
+use Rattle.wire.specs.Grammar.{LawfulFormat, number, ranged, below, both}
 use Rattle.wire.proofs.Laws.{number_lawful, ranged_lawful, below_lawful, checked_lawful, both_lawful, mapped_lawful, counted_lawful, plain_lawful}
 use Rattle.formats.specs.declared.rule_step.RuleStep.{RuleStep}
-use Rattle.formats.specs.Contents.{RuleContents}
 use Rattle.formats.specs.RuleFile.{marked, mark_of, mark, marks, fields, step_of, fields_of, Leads, any_step, rises, step, stepped, steps, parts_of, contents_of, FineRule, rule}
 
 mark_back : (n : ℕ) → n ≤ 1 → mark_of (marked n) ≡ n

@@ -1,7 +1,7 @@
 -- Numbers as they stand in a file.
 use Rattle.std.specs.Prelude.{◌≡◌, [], ◌∷◌, Ok, Err}
 use Rattle.model.specs.declared.refusal.Refusal.TheVariants.{BadNumber}
-use Rattle.wire.specs.Numbers.{Decoded, encode, decode}
+use Rattle.wire.specs.Numbers.{encode, decode}
 
 -- 300 is the bytes ac 02, and 80 00 is no number, since its last group is 0
 abbrev pub NumberExamples : Type 0

@@ -1,4 +1,6 @@
 //! The formats of the network file and of the rule file, and what holds of all such files.
+#![tactic(auto)]
+
 mod rule_step;
 mod theorems;
 

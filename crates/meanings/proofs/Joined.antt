@@ -1,8 +1,8 @@
 -- What two books as one answer, by the part that is asked.
-use Rattle.std.proofs.Common.{◌≡◌, ℕ, ◌+◌, ◌-◌, ◌<◌, ◌≤◌, cond, ltb, Some, None, Option, sym, refl, ap, ◌∙◌, ⊎_elim, arith}
+use Rattle.std.proofs.Common.{◌≡◌, ℕ, ◌+◌, ◌-◌, ◌<◌, ◌≤◌, Option, sym, ⊎_elim, arith}
 use Rattle.std.proofs.lemmas.Bool.{lt-ltb, le-ltb, cases_lt}
 use Rattle.model.specs.Books.{LawfulBook}
-use Rattle.meanings.specs.Answers.{listed, joined, joined_count, most}
+use Rattle.meanings.specs.Answers.{joined, joined_count, most}
 
 module _ {m n : ℕ} {f g : ℕ → ℕ → Option ℕ} (p : LawfulBook m f) (q : LawfulBook n g) where
   pub joined_first : (s t : ℕ) → s < m → joined m f n g s t ≡ f s t

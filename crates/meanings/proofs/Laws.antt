@@ -1,5 +1,5 @@
 -- How answers come to keep the laws of books.
-use Rattle.std.proofs.Common.{◌≡◌, ℕ, ◌+◌, ◌-◌, ◌^◌, ◌<◌, ◌≤◌, Bool, true, false, cond, ltb, leb, Some, None, Option, refl, arith}
+use Rattle.std.proofs.Common.{◌≡◌, ℕ, ◌-◌, ◌^◌, ◌<◌, ◌≤◌, Bool, true, false, cond, ltb, leb, Some, None, Option, refl, arith}
 use Rattle.std.proofs.lemmas.Bool.{ltb-true, leb-true, leb-false, le-ltb, lt-leb}
 use Rattle.model.specs.Books.{LawfulBook, Fair, Within, NoLater}
 use Rattle.model.specs.Clock.{horizon}

@@ -1,5 +1,5 @@
 -- A road book is a book, and its answers point by point.
-use Rattle.std.proofs.Common.{◌≡◌, ℕ, zero, suc, ◌+◌, ◌-◌, ◌*◌, ◌/◌, ◌<◌, ◌≤◌, cond, ltb, leb, List, [], ◌∷◌, length, get_or, drop, Some, None, sym, refl, ap, ◌∙◌, subst, ⊎_elim, le_trans, mul-le-mul_right, suc-add, mul-le-mul_left, div-mul-le_self, arith}
+use Rattle.std.proofs.Common.{◌≡◌, ℕ, suc, ◌+◌, ◌-◌, ◌*◌, ◌/◌, ◌<◌, ◌≤◌, cond, ltb, List, [], ◌∷◌, length, get_or, drop, Some, refl, ap, ◌∙◌, subst, ⊎_elim, le_trans, mul-le-mul_right, suc-add, mul-le-mul_left, div-mul-le_self, arith}
 use native.Mathlib.Nat.{div-le_of_le-mul}
 use Rattle.std.proofs.lemmas.Nat.{le-div}
 use Rattle.std.proofs.lemmas.Bool.{lt-ltb, le-ltb, le-leb, lt-leb, cases_lt}
@@ -9,7 +9,7 @@ use Rattle.model.specs.declared.tables.Point.{Point}
 use Rattle.model.specs.declared.tables.Span.{Span}
 use Rattle.meanings.specs.Answers.{timely}
 use Rattle.meanings.specs.Spans.{most_services, service_rows, Each}
-use Rattle.meanings.specs.Roads.{reached, line, between, passed, ahead, first_of, last_from, last_of, by_neighbours, ridden, driven, no_point, Rising, Steady}
+use Rattle.meanings.specs.Roads.{reached, line, between, passed, ahead, first_of, last_from, by_neighbours, ridden, driven, no_point, Rising, Steady}
 use Rattle.meanings.proofs.Laws.{listed_lawful, timely_fair}
 
 -- a quotient rises with what is divided

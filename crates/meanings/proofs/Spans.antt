@@ -1,5 +1,5 @@
 -- The rows of a span.
-use Rattle.std.proofs.Common.{◌≡◌, ℕ, List, length, take, drop, arith}
+use Rattle.std.proofs.Common.{◌≡◌, ℕ, List, length, arith}
 use Rattle.std.proofs.lemmas.List.{length-take, length-drop}
 use Rattle.model.specs.declared.tables.Span.{Span}
 use Rattle.meanings.specs.Spans.{rows, Fits}

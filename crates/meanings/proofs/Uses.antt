@@ -1,7 +1,7 @@
 -- The laws of a book, as its users want them: by what an answer is.
-use Rattle.std.proofs.Common.{◌≡◌, ℕ, ◌<◌, ◌≤◌, Some, None, Option, sym, refl, ◌∙◌, subst, ⊎_elim, arith}
+use Rattle.std.proofs.Common.{◌≡◌, ℕ, ◌<◌, ◌≤◌, Some, None, Option, refl, subst, ⊎_elim, arith}
 use Rattle.std.proofs.lemmas.Bool.{cases_lt}
-use Rattle.model.specs.Books.{LawfulBook, Fair, Within, NoLater}
+use Rattle.model.specs.Books.{LawfulBook, Within, NoLater}
 use Rattle.model.specs.Clock.{horizon}
 
 some_none : {a : ℕ} {o : Option ℕ} → o ≡ Some a → o ≡ None → ⊥

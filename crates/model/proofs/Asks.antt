@@ -1,15 +1,13 @@
 -- Asking has one result.
-use Rattle.std.proofs.Common.{◌≡◌, ℕ, ◌<◌, ◌≤◌, ◌⊎◌, List, [], ◌∷◌, ◌++◌, length, take, drop, Some, None, Ok, Err, Option, Result, sym, refl, ap, ◌∙◌, subst, inl, inr, arith}
+use Rattle.std.proofs.Common.{◌≡◌, ℕ, ◌<◌, ◌≤◌, List, ◌++◌, length, take, drop, Some, None, Ok, Err, Option, Result, sym, refl, ap, ◌∙◌, inl, inr, arith}
 use lib.Seq.{take-append_seam}
 use Rattle.model.specs.declared.enquiry.Enquiry.{Enquiry}
 use Rattle.model.specs.declared.enquiry.Found.{Found}
 use Rattle.model.specs.declared.refusal.Refusal.{Refusal}
-use Rattle.model.specs.declared.refusal.Refusal.TheVariants.{NoJourney, RowsShort}
-use Rattle.model.specs.Trips.{World, Leg, place, Answer}
-use Rattle.model.specs.Suits.{Suits}
-use Rattle.model.specs.Asking.{refusal_of, TieRule, Outnumbered, Answered, Outcome, Asked}
+use Rattle.model.specs.Trips.{World, Leg, place}
+use Rattle.model.specs.Asking.{refusal_of, TieRule, Answered, Outcome, Asked}
 use Rattle.model.specs.Claims.{Answered-alike, Asked-is-one}
-use Rattle.model.proofs.Options.{some_is, not_ok, not_none}
+use Rattle.model.proofs.Options.{some_is, not_ok}
 use Rattle.model.proofs.Unique.{answer_is_one}
 
 pub legs_are_one : (w : World) (e : Enquiry) (js ks : List Leg) → TieRule w e js → TieRule w e ks → js ≡ ks

@@ -1,6 +1,6 @@
 -- One more leg at the end of a trip; and the tie rule's journey to a place is a trip that arrives at its first second.
-use Rattle.std.proofs.Common.{◌≡◌, ℕ, zero, suc, ◌<◌, ◌≤◌, List, [], ◌∷◌, ◌++◌, length, sym, refl, ap, ◌∙◌, subst, le_refl, arith}
-use Rattle.model.specs.Trips.{World, Place, Leg, Rides, Trip, stay, ride, First, Eager, there, go, Rank, EagerLeg, Journey, none, on}
+use Rattle.std.proofs.Common.{◌≡◌, ℕ, ◌≤◌, List, [], ◌∷◌, ◌++◌, length, sym, refl, subst, le_refl, arith}
+use Rattle.model.specs.Trips.{World, Place, Leg, Rides, Trip, stay, ride, First, Eager, there, go, Journey, none, on}
 use Rattle.model.specs.Claims.{JourneyIsTrip}
 use Rattle.model.proofs.Unique.{first_is_one}
 use Rattle.model.proofs.Waiting.{eager_is_trip}

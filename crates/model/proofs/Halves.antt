@@ -1,9 +1,9 @@
 -- A trip between places is a trip between stops whose word leads the rule; and which trips suit an enquiry.
-use Rattle.std.proofs.Common.{◌≡◌, ℕ, ◌≤◌, Bool, true, List, [], ◌∷◌, Some, None, Option, sym, refl, ap, ◌∙◌, subst}
+use Rattle.std.proofs.Common.{◌≡◌, ℕ, List, [], ◌∷◌, Some, Option, sym, refl, ap, ◌∙◌, subst}
 use Rattle.std.specs.List.{slice_get}
 use Rattle.model.specs.declared.enquiry.Enquiry.{Enquiry}
-use Rattle.model.specs.Rules.{onward, leads, Accepts}
-use Rattle.model.specs.Trips.{World, Arc, Place, place, Leg, Rides, Trip, Ends}
+use Rattle.model.specs.Rules.{onward, leads}
+use Rattle.model.specs.Trips.{World, Arc, Place, place, Leg, Trip, Ends}
 use Rattle.model.specs.Suits.{StopTrip, Suits, label_of, word}
 use Rattle.model.specs.Claims.{TripIsTwo, SuitsIsTrip}
 use Rattle.model.proofs.Options.{some_is, onward_parts}

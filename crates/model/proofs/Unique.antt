@@ -1,7 +1,7 @@
 -- First seconds, ranks, journeys and answers are unique.
-use Rattle.std.proofs.Common.{◌≡◌, ℕ, zero, suc, ◌<◌, ◌≤◌, Bool, true, List, [], ◌∷◌, ◌++◌, length, Some, None, Option, sym, refl, ap, ◌∙◌, subst, arith}
+use Rattle.std.proofs.Common.{◌≡◌, ℕ, suc, ◌≤◌, List, [], ◌∷◌, ◌++◌, length, Some, None, Option, sym, refl, ap, ◌∙◌, subst, arith}
 use Rattle.std.specs.List.{slice_get}
-use Rattle.model.specs.Trips.{World, Arc, Place, Leg, Rides, Trip, First, Rank, EagerLeg, Journey, none, on, Ends, Chosen, Answer, Upto2, Upto3}
+use Rattle.model.specs.Trips.{World, Place, Leg, Rides, First, Rank, EagerLeg, Journey, none, on, Chosen, Upto2, Upto3}
 use Rattle.model.specs.Claims.{FirstIsOne, RankIsOne, JourneyIsOne, AnswerIsOne}
 
 pub place_is : (p q : Place) → p.stop ≡ q.stop → p.state ≡ q.state → p ≡ q

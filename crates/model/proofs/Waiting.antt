@@ -1,6 +1,6 @@
 -- Waiting never helps.
-use Rattle.std.proofs.Common.{◌≡◌, ℕ, zero, suc, ◌<◌, ◌≤◌, List, [], ◌∷◌, ◌++◌, map, sym, refl, ap, ◌∙◌, subst, le_trans, le_refl, arith}
-use Rattle.model.specs.Trips.{World, LawfulWorld, Arc, Place, Leg, Rides, Trip, stay, ride, NeverWaits, First, Eager, there, go}
+use Rattle.std.proofs.Common.{◌≡◌, ℕ, ◌≤◌, List, [], ◌∷◌, map, refl, ap, le_refl, arith}
+use Rattle.model.specs.Trips.{World, LawfulWorld, Place, Leg, Rides, Trip, stay, ride, NeverWaits, First, Eager, there, go}
 use Rattle.model.specs.Claims.{WaitingNeverHelps, EagerIsTrip}
 
 -- the arc that can be ridden from the second e on can be ridden from d on, and arrives no later

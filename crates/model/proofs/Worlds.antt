@@ -1,11 +1,8 @@
 -- A lawful book and a lawful rule make a lawful world.
-use Rattle.std.proofs.Common.{◌≡◌, ℕ, ◌<◌, ◌≤◌, List, Some, None, Option, sym, refl, ap, ◌∙◌, subst}
+use Rattle.std.proofs.Common.{◌≡◌, ℕ, ◌≤◌, Some, None, Option, refl, subst}
 use Rattle.model.specs.Clock.{horizon}
-use Rattle.model.specs.Books.{NoLater, Within, Fair, LawfulBook}
-use Rattle.model.specs.Rules.{Automaton, LawfulRule}
-use Rattle.model.specs.Trips.{world}
+use Rattle.model.specs.Books.{NoLater, Within}
 use Rattle.model.specs.Claims.{WorldIsLawful}
-use Rattle.model.proofs.Options.{not_none}
 
 no_later_some : (x : Option ℕ) (b : ℕ) → NoLater x (Some b) → (a : ℕ) × (x ≡ Some a) × (a ≤ b)
 no_later_some None b h = absurd h

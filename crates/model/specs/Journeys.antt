@@ -1,8 +1,8 @@
 -- Two small worlds and the journeys that the tie rule picks in them, whatever book gives the arrivals named.
-use Rattle.std.specs.Prelude.{◌≡◌, ℕ, Bool, cond, ◌&&◌, List, [], ◌∷◌, Some, None, Option, nat_lt}
+use Rattle.std.specs.Prelude.{◌≡◌, ℕ, cond, ◌&&◌, List, [], ◌∷◌, Some, None, Option, nat_lt}
 use Rattle.model.specs.Books.{LawfulBook}
 use Rattle.model.specs.Rules.{Automaton, label_count}
-use Rattle.model.specs.Trips.{Arc, Leg, world, place, Answer}
+use Rattle.model.specs.Trips.{Arc, world, place, Answer}
 
 -- one state, an end, from which every label leads back to it
 abbrev pub any_word : Automaton

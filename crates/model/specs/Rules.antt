@@ -1,6 +1,6 @@
 -- What a rule on modes means, the laws that every rule keeps, and which words it accepts.
 -- The labels of arcs are 0 f foot, 1 b bus, 2 s ship, 3 r rail, 4 c car, 5 l link; b, s and r are boardings.
-use Rattle.std.specs.Prelude.{◌≡◌, ℕ, ◌<◌, ◌≤◌, Bool, true, false, List, [], ◌∷◌, Some, None, Option}
+use Rattle.std.specs.Prelude.{◌≡◌, ℕ, ◌<◌, ◌≤◌, Bool, true, List, [], ◌∷◌, Some, None, Option}
 
 -- how many labels there are
 abbrev pub label_count : ℕ

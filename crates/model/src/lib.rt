@@ -1,5 +1,7 @@
 //! The subject's own words: the clock, arcs, legs and places, refusals; in specs/ what books, rules and networks mean,
 //! what a trip is and which journey answers an enquiry; in proofs/ the theorems about them.
+#![tactic(auto)]
+
 mod clock;
 mod enquiry;
 mod label;

@@ -1,5 +1,5 @@
 -- What is a network is not refused.
-use Rattle.std.proofs.Common.{◌≡◌, ℕ, zero, suc, ◌+◌, ◌-◌, ◌<◌, ◌≤◌, List, length, get_or, ap, arith}
+use Rattle.std.proofs.Common.{◌≡◌, ℕ, zero, suc, ◌+◌, ◌-◌, List, get_or, ap, arith}
 use Rattle.model.specs.declared.network.Arc.{Arc}
 use Rattle.network.specs.declared.fault.NetworkFault.{NetworkFault}
 use Rattle.network.specs.declared.fault.NetworkFault.TheVariants.{StopCount, ArcCount, ArcField, TailFalls}

@@ -1,4 +1,6 @@
 //! The network value: stops and arcs, tested once when it is laid.
+#![tactic(auto)]
+
 mod fault;
 mod network;
 

@@ -1,4 +1,4 @@
-use Rattle.std.proofs.Common.{sym, ap, ◌∙◌}
+use Rattle.std.proofs.Common.{sym, ap}
 use Rattle.meanings.specs.Timetables.{least, arrivals}
 use Rattle.books.proofs.Departing.{none_caught, rising_caught, forward_caught}
 use Rattle.books.proofs.timetables.earliest.Goals as goal

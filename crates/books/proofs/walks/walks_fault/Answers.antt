@@ -1,4 +1,4 @@
-use Rattle.std.proofs.Common.{◌≡◌, sym, ◌∙◌, arith}
+use Rattle.std.proofs.Common.{sym, ◌∙◌}
 use Rattle.std.proofs.lemmas.Bool.{le-leb, lt-leb}
 use Rattle.books.proofs.Faults.{counted, fault_here, fault_later, fault_nowhere}
 use Rattle.books.specs.Faults.{walk_fault}

@@ -1,4 +1,4 @@
-use Rattle.std.proofs.Common.{◌≡◌, ◌<◌, ◌≤◌, length, get_or, sym, arith}
+use Rattle.std.proofs.Common.{◌≡◌, get_or, sym, arith}
 use Rattle.meanings.specs.Spans.{no_span, service_rows}
 use Rattle.meanings.proofs.Spans.{rows_length}
 use Rattle.meanings.proofs.Roads.{driven_lawful}

@@ -1,6 +1,5 @@
-use Rattle.std.proofs.Common.{◌≡◌, get_or, sym, refl, ap}
+use Rattle.std.proofs.Common.{sym, ap}
 use Rattle.std.proofs.lemmas.List.{get_or_past}
-use Rattle.model.specs.declared.tables.Span.{Span}
 use Rattle.meanings.specs.Spans.{rows, no_span}
 use Rattle.books.proofs.timetables.Timetables.connections.Goals as goal
 
