@@ -1,4 +1,6 @@
 //! Numbers that look like chance, and are the same in every run.
+#![tactic(auto)]
+
 ghost use Rattle.std.specs.Prelude.{◌≡◌, ◌<◌, ◌%◌, eqb};
 ghost use Rattle.chance.specs.Falls.{stepped, upper};
 

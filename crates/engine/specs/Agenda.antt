@@ -1,6 +1,6 @@
 -- The queue of the search, and the row that it settles next.
-use Rattle.std.specs.Prelude.{◌≡◌, ℕ, ◌+◌, ◌<◌, ◌≤◌, Bool, true, false, not, ◌&&◌, List, length, get_or, take, Some, None, Ok, Err, Option, Result, ◌==◌, slice_index_or, slice_set}
-use Rattle.std.specs.List.{ContainsAt as Has, AllByRecursion as All}
+use Rattle.std.specs.Prelude.{◌≡◌, ℕ, ◌<◌, Bool, true, false, not, ◌&&◌, List, length, get_or, take, Some, None, Ok, Err, Option, Result, ◌==◌, slice_index_or, slice_set}
+use Rattle.std.specs.List.{ContainsAt as Has, AllByRecursion}
 use Rattle.model.specs.declared.enquiry.Enquiry.{Enquiry}
 use Rattle.model.specs.declared.refusal.Refusal.{Refusal}
 use Rattle.model.specs.Asking.{refusal_of, rows_needed}
@@ -34,7 +34,7 @@ pub record Known (rows : Rows) (e : Entry) : Type 0 where
 pub record Agenda (rows : Rows) (q : Queue Entry) : Type 0 where
   pub ready : Ready entry_before q
   pub waiting : (r : ℕ) (l : Label) → Waits rows r l → Has (contents q) (entry r l)
-  pub known : All (Known rows) (contents q)
+  pub known : AllByRecursion (Known rows) (contents q)
 
 -- no settled row has a label after this one, by the second, then the legs
 abbrev pub Topped : Rows → Label → Type 0

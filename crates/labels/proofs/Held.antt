@@ -1,29 +1,11 @@
 -- What a search's table always holds, and that a turn keeps it.
-use Rattle.std.proofs.Common.{◌≡◌, ℕ, zero, suc, ◌<◌, ◌≤◌, Bool, true, false, cond, ◌&&◌, ◌⊎◌, List, [], ◌∷◌, length, Some, None, Option, sym, refl, ap, ◌∙◌, subst, inl, inr, arith}
-use Rattle.std.specs.List.{slice_get}
-use Rattle.std.specs.Map.{update}
+use Rattle.std.proofs.Common.{◌≡◌, ℕ, zero, suc, ◌<◌, ◌≤◌, true, false, ◌⊎◌, length, Some, None, sym, refl, ap, ◌∙◌, subst, inl, inr, arith}
 use Rattle.std.proofs.lemmas.Bool.{both_ways, cases_eq}
-use Rattle.model.specs.declared.network.Arc.{Arc}
 use Rattle.model.specs.declared.network.Place.{Place}
-use Rattle.model.specs.declared.network.Leg.{Leg}
 use Rattle.model.specs.Trips.{World, LawfulWorld, Rides, Upto2, Upto4}
-use Rattle.labels.specs.Table.{Label, Table, put, offered, Offer, offer, accept, relax, relax_below, settle, turn, Least, begun, Search, begin, next}
-use Rattle.model.proofs.Options.{some_is, not_none, one_some}
-use Rattle.labels.proofs.Tables.{
-  nth_below,
-  cases_place,
-  put_here,
-  put_apart,
-  put_cases,
-  Upto,
-  upto_itself,
-  upto_on,
-  Offered,
-  offer_rides,
-  rides_offer,
-  Accepted,
-  accept_is,
-}
+use Rattle.labels.specs.Table.{Label, Table, put, offered, offer, relax, relax_below, settle, turn, Least, begun, Search, begin, next}
+use Rattle.model.proofs.Options.{not_none, one_some}
+use Rattle.labels.proofs.Tables.{nth_below, cases_place, put_here, put_apart, put_cases, Upto, upto_on, offer_rides, rides_offer, Accepted, accept_is}
 
 -- the label of q comes from a settled place, by one leg with no waiting
 pub record Made (w : World) (T : Table) (q : Place) (l : Label) : Type 0 where

@@ -1,5 +1,5 @@
 -- The journeys of two small worlds, from tables of their labels.
-use Rattle.std.proofs.Common.{◌≡◌, ℕ, zero, suc, ◌+◌, ◌<◌, ◌≤◌, Bool, true, false, cond, ◌&&◌, ltb, ◌⊎◌, List, [], ◌∷◌, ◌++◌, length, Some, None, Option, sym, refl, ap, ◌∙◌, subst, inl, inr, arith}
+use Rattle.std.proofs.Common.{◌≡◌, ℕ, zero, suc, ◌≤◌, Bool, true, false, cond, ◌&&◌, ltb, ◌⊎◌, List, [], ◌∷◌, Some, None, Option, sym, refl, ap, ◌∙◌, subst, inl, inr, arith}
 use Rattle.std.specs.List.{slice_get}
 use Rattle.std.proofs.lemmas.Bool.{both_ways, cases_Bool, ltb-true, le-ltb}
 use Rattle.model.specs.declared.network.Arc.{Arc}
@@ -9,12 +9,12 @@ use Rattle.model.specs.Books.{LawfulBook}
 use Rattle.model.specs.Rules.{LawfulRule, label_count}
 use Rattle.model.specs.Trips.{World, LawfulWorld, world, place, Rides, Ends, Answer, Upto2, Upto4}
 use Rattle.model.specs.Journeys.{any_word, straight_or_round, to_the_pier, OneWalkBeatsTwo, TwoWalksToABoat}
-use Rattle.model.proofs.Options.{some_is, not_none, one_some}
+use Rattle.model.proofs.Options.{some_is, not_none}
 use Rattle.model.proofs.Unique.{place_is}
 use Rattle.model.proofs.Worlds.{world_is_lawful}
-use Rattle.labels.specs.Table.{Label, Table, Offer, same_place, Least, Tied, Unmet, Traced, source, after}
+use Rattle.labels.specs.Table.{Label, Table, Offer, same_place, Least, source, after}
 use Rattle.labels.proofs.Tables.{same_place_is}
-use Rattle.labels.proofs.Held.{Made, Held, Rests}
+use Rattle.labels.proofs.Held.{Made, Rests}
 use Rattle.labels.proofs.Solving.{chosen, journey_of}
 
 -- a table of some labels

@@ -1,12 +1,11 @@
 -- What an arc offers, case by case.
-use Rattle.std.proofs.Common.{◌≡◌, ℕ, ◌<◌, ◌≤◌, Bool, true, false, cond, eqb, Some, None, Option, sym, refl, ap, ◌∙◌, subst}
+use Rattle.std.proofs.Common.{◌≡◌, ℕ, true, eqb, Some, None, sym}
 use Rattle.std.specs.List.{slice_get}
 use Rattle.std.proofs.lemmas.Bool.{eq-eqb}
 use Rattle.model.specs.Trips.{World}
 use Rattle.model.specs.declared.network.Arc.{Arc}
 use Rattle.model.specs.declared.network.Place.{Place}
 use Rattle.labels.specs.declared.label.Label.{Label}
-use Rattle.labels.specs.declared.label.Offer.{Offer}
 use Rattle.labels.specs.Table.{offer, offered}
 
 module _ (w : World) (p : Place) (l : Label) (i : ℕ) (x : Arc) (n : slice_get w.arcs i ≡ Some x) where

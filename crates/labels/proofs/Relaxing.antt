@@ -1,5 +1,5 @@
 -- Arcs relaxed one after the other, over rows.
-use Rattle.std.proofs.Common.{◌≡◌, ℕ, zero, suc, ◌+◌, ◌*◌, ◌<◌, ◌≤◌, Bool, true, false, cond, ◌⊎◌, List, length, get_or, Some, None, Option, sym, refl, ap, ◌∙◌, subst, inl, inr, add-one, arith}
+use Rattle.std.proofs.Common.{◌≡◌, ℕ, zero, suc, ◌+◌, ◌*◌, ◌<◌, ◌≤◌, length, Some, None, Option, sym, refl, ap, ◌∙◌, subst, inl, inr, add-one, arith}
 use Rattle.std.specs.List.{slice_get}
 use Rattle.std.proofs.lemmas.Bool.{cases_lt}
 use Rattle.model.specs.Trips.{World}
@@ -7,8 +7,8 @@ use Rattle.model.specs.declared.network.Arc.{Arc}
 use Rattle.model.specs.declared.network.Place.{Place}
 use Rattle.labels.specs.declared.label.Label.{Label}
 use Rattle.labels.specs.declared.label.Offer.{Offer}
-use Rattle.labels.specs.Table.{Table, offer, accept, relax, relax_below}
-use Rattle.labels.proofs.Tables.{offer_rides, Offered}
+use Rattle.labels.specs.Table.{Table, offer, accept, relax_below}
+use Rattle.labels.proofs.Tables.{offer_rides}
 use Rattle.labels.specs.Rows.{Rows, row_of, view, accepted, Room, Among}
 use Rattle.labels.proofs.View.{view_accepted}
 

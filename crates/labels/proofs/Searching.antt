@@ -1,18 +1,17 @@
 -- A turn of the search over rows: it is a turn of the search, settles one row more, and relaxes each arc at its tail once more.
-use Rattle.std.proofs.Common.{◌≡◌, ℕ, zero, suc, ◌+◌, ◌-◌, ◌*◌, ◌/◌, ◌%◌, ◌^◌, ◌<◌, ◌≤◌, Bool, true, false, cond, ◌⊎◌, List, length, get_or, set, Some, None, Option, sym, refl, ap, ◌∙◌, subst, inl, inr, arith, length-set}
+use Rattle.std.proofs.Common.{◌≡◌, ℕ, ◌+◌, ◌-◌, ◌*◌, ◌/◌, ◌%◌, ◌^◌, ◌<◌, ◌≤◌, Bool, true, false, List, length, get_or, set, Some, None, Option, sym, refl, ap, ◌∙◌, subst, inl, inr, arith}
 use mathlib.Core.Path.{fun_ext}
 use Rattle.std.specs.List.{slice_get}
 use Rattle.std.proofs.lemmas.Option.{slice_get-get_or}
 use Rattle.std.proofs.lemmas.List.{get_or_past, get_or-set_same, get_or-set_other}
-use Rattle.std.proofs.lemmas.Nat.{div-add-mod', mod_below, div_below, mul-add-lt, mul-le}
+use Rattle.std.proofs.lemmas.Nat.{div-add-mod', mod_below}
 use Rattle.std.proofs.lemmas.Bool.{cases_lt, cases_eq, both_ways}
 use Rattle.model.specs.declared.network.Arc.{Arc}
 use Rattle.model.specs.declared.network.Place.{Place}
-use Rattle.model.specs.Trips.{World, LawfulWorld, place, Ends, Upto2, Upto3}
+use Rattle.model.specs.Trips.{World, LawfulWorld, Ends, Upto3}
 use Rattle.model.proofs.Options.{not_none, one_some}
-use Rattle.model.proofs.Unique.{place_is}
 use Rattle.labels.specs.declared.label.Label.{Label}
-use Rattle.labels.specs.Table.{Table, put, settle, turn, Least, begun, Search, begin, next, Finished, Unmet, Tied}
+use Rattle.labels.specs.Table.{Table, put, settle, turn, Least, begun, Search, next, Finished, Unmet, Tied}
 use Rattle.labels.specs.Rows.{Rows, row_of, view, Waits, Foremost, place_of, is_settled, count_below, settled_count, settled_at, relaxed_count, LegsBound}
 use Rattle.labels.proofs.Tables.{put_cases}
 use Rattle.labels.proofs.Held.{Rests, search_rests, turn_stays, turn_here, turn_legs, turn_was}

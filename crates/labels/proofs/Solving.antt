@@ -1,18 +1,18 @@
 -- What a table of labels tells at any time of the search: a settled label, and one that no unsettled label is before, has the first
 -- second, the rank and the last leg of its place's journey; and every trip to a place that is not settled passes an unsettled label.
-use Rattle.std.proofs.Common.{◌≡◌, ℕ, zero, suc, ◌+◌, ◌<◌, ◌≤◌, Bool, true, false, ◌⊎◌, List, [], ◌∷◌, ◌++◌, length, Some, None, Option, sym, refl, ap, ◌∙◌, subst, inl, inr, le_refl, arith, length-append}
+use Rattle.std.proofs.Common.{◌≡◌, ℕ, zero, suc, ◌+◌, ◌≤◌, true, false, ◌⊎◌, List, [], ◌∷◌, ◌++◌, length, Some, None, sym, refl, ap, ◌∙◌, subst, inl, inr, le_refl, arith, length-append}
 use Rattle.std.specs.List.{slice_get}
 use Rattle.std.proofs.lemmas.Bool.{both_ways, cases_Bool}
 use Rattle.model.specs.declared.network.Arc.{Arc}
 use Rattle.model.specs.declared.network.Place.{Place}
 use Rattle.model.specs.declared.network.Leg.{Leg}
-use Rattle.model.specs.Trips.{World, LawfulWorld, Rides, Trip, stay, ride, First, Eager, there, go, Rank, EagerLeg, Journey, none, on, Ends, Chosen, Answer, Upto2, Upto3, Upto4}
-use Rattle.model.proofs.Options.{not_none, one_some}
+use Rattle.model.specs.Trips.{World, LawfulWorld, Rides, Trip, stay, ride, First, Eager, there, go, Rank, EagerLeg, Journey, none, on, Ends, Chosen, Answer, Upto2, Upto4}
+use Rattle.model.proofs.Options.{one_some}
 use Rattle.model.proofs.Unique.{place_is, first_is_one, rank_is_one}
 use Rattle.model.proofs.Waiting.{sooner, not_back, eager_is_trip}
 use Rattle.model.proofs.Extending.{trip_on, eager_on, eager_first}
 use Rattle.labels.specs.Table.{Label, Table, Least, Finished, Traced, source, after, Final, Unmet, Tied}
-use Rattle.labels.proofs.Held.{Made, Held, Rests}
+use Rattle.labels.proofs.Held.{Made, Rests}
 
 module _ (w : World) (law : LawfulWorld w) (o : Place) (t : ℕ) (T : Table) (rest : Rests w o t T) where
   pub final_settled : (q : Place) (l : Label) → T q ≡ Some l → l.settled ≡ true → Final T l

@@ -1,15 +1,13 @@
 -- One place of a table written, an offer made, and an offer accepted.
-use Rattle.std.proofs.Common.{◌≡◌, ℕ, zero, suc, ◌<◌, ◌≤◌, Bool, true, false, cond, ◌&&◌, eqb, ltb, ◌⊎◌, List, [], ◌∷◌, length, Some, None, Option, sym, refl, ap, ◌∙◌, subst, inl, inr, add-one, arith}
+use Rattle.std.proofs.Common.{◌≡◌, ℕ, suc, ◌<◌, Bool, true, false, cond, eqb, ◌⊎◌, List, length, Some, None, Option, sym, refl, ap, ◌∙◌, subst, inl, inr, add-one, arith}
 use Rattle.std.specs.List.{slice_get}
-use Rattle.std.specs.Map.{update}
 use Rattle.std.proofs.lemmas.Option.{slice_get_past}
 use Rattle.std.proofs.lemmas.Map.{update_same, update_other}
-use Rattle.std.proofs.lemmas.Bool.{and_parts, and_from, cases_Bool, eqb-true, eq-eqb, ltb-true, ltb-false, cases_lt, both_ways}
+use Rattle.std.proofs.lemmas.Bool.{and_parts, and_from, cases_Bool, eqb-true, eq-eqb, cases_lt, both_ways}
 use Rattle.std.proofs.lemmas.Bool.Decides.{nat_tests}
 use Rattle.model.specs.declared.network.Arc.{Arc}
 use Rattle.model.specs.declared.network.Place.{Place}
-use Rattle.model.specs.declared.network.Leg.{Leg}
-use Rattle.model.specs.Trips.{World, LawfulWorld, Rides, Upto4}
+use Rattle.model.specs.Trips.{World, Rides, Upto4}
 use Rattle.labels.specs.Table.{Label, Table, same_place, put, better, keep, offered, Offer, offer_arrived, offer_spelled, offer_arc, offer, accept}
 use Rattle.model.proofs.Unique.{place_is}
 use Rattle.model.proofs.Options.{some_is, not_none, one_some}
@@ -38,8 +36,8 @@ put_here T p l = update_same same_place T p (Some l) p (same_place_here p)
 
 pub put_apart : (T : Table) (p : Place) (l : Label) (q : Place) → (q ≡ p → ⊥) → put T p l q ≡ T q
 put_apart T p l q h =
-    elim (cases_Bool (same_place q p)) [
-      | inl e ↦ absurd (h (same_place_is q p e))
+    elim (cases_Bool (same_place p q)) [
+      | inl e ↦ absurd (h (sym (same_place_is p q e)))
       | inr e ↦ update_other same_place T p (Some l) q e
     ]
 

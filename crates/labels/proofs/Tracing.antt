@@ -1,5 +1,5 @@
 -- The walk back along the labels.
-use Rattle.std.proofs.Common.{◌≡◌, ℕ, zero, suc, ◌+◌, ◌*◌, ◌<◌, ◌≤◌, ◌⊎◌, List, [], ◌∷◌, ◌++◌, length, get_or, take, drop, set, Some, None, Option, sym, refl, ap, ◌∙◌, subst, inl, inr, append_assoc, append-nil, arith, length-append, take-append-drop, length-take}
+use Rattle.std.proofs.Common.{◌≡◌, ℕ, suc, ◌+◌, ◌*◌, ◌<◌, ◌≤◌, List, [], ◌∷◌, ◌++◌, length, get_or, take, drop, set, Some, None, sym, refl, ap, ◌∙◌, subst, append_assoc, append-nil, arith, length-append, take-append-drop, length-take}
 use Rattle.std.specs.List.{slice_get}
 use Rattle.std.proofs.lemmas.Option.{slice_get-get_or}
 use Rattle.std.proofs.lemmas.List.{take_more, set_at}
@@ -11,7 +11,7 @@ use Rattle.model.specs.Trips.{place}
 use Rattle.labels.specs.Table.{Table, Traced, source, after}
 use Rattle.model.proofs.Options.{one_some}
 use Rattle.labels.proofs.Tables.{nth_below}
-use Rattle.labels.specs.Rows.{Rows, row_of, view, Before}
+use Rattle.labels.specs.Rows.{Rows, view, Before}
 use Rattle.labels.proofs.Searching.{view_some, row_below}
 
 -- where a label's arc and the row before it stand

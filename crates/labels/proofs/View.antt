@@ -1,15 +1,13 @@
 -- A row written is a place's label put.
-use Rattle.std.proofs.Common.{◌≡◌, ℕ, ◌+◌, ◌*◌, ◌/◌, ◌%◌, ◌<◌, ◌≤◌, Bool, true, false, cond, ltb, ◌⊎◌, List, length, get_or, set, Some, None, Option, sym, refl, ap, ◌∙◌, subst, inl, inr, arith}
+use Rattle.std.proofs.Common.{◌≡◌, ℕ, ◌/◌, ◌%◌, ◌<◌, ◌≤◌, true, false, ltb, length, get_or, set, Some, None, Option, sym, refl, ap, ◌∙◌, subst, inl, inr}
 use mathlib.Core.Path.{fun_ext}
 use Rattle.std.proofs.lemmas.List.{get_or-set_same, get_or-set_other, set-get_or}
 use Rattle.std.proofs.lemmas.Nat.{div-mul-add, mod-mul-add}
 use Rattle.std.proofs.lemmas.Bool.{cases_lt, lt-ltb, le-ltb, cond-true, cond-false, true≢false}
-use Rattle.model.specs.Trips.{World}
-use Rattle.model.specs.declared.network.Arc.{Arc}
 use Rattle.model.specs.declared.network.Place.{Place}
 use Rattle.labels.specs.declared.label.Label.{Label}
 use Rattle.labels.specs.declared.label.Offer.{Offer}
-use Rattle.labels.specs.Table.{Table, better, keep, put, accept}
+use Rattle.labels.specs.Table.{better, keep, put, accept}
 use Rattle.model.proofs.Unique.{place_is}
 use Rattle.labels.proofs.Tables.{cases_place, put_here, put_apart}
 use Rattle.labels.specs.Rows.{Rows, row_of, view, improves, accepted}

@@ -2,7 +2,7 @@
 use Rattle.std.proofs.Common.{◌≡◌, ℕ, List, [], ◌∷◌, ◌++◌, Option, refl, ap, ◌∙◌}
 use Rattle.model.specs.declared.refusal.Refusal.{Refusal}
 use Rattle.notices.specs.Notices.{unless}
-use Rattle.ledger.specs.Ledgers.{Call, Ledger, refusal, doing, after, going, fresh, ledger}
+use Rattle.ledger.specs.Ledgers.{Call, Ledger, doing, after, going, fresh, ledger}
 use Rattle.ledger.specs.Sound.{IdleCalls}
 
 pub going_append : (mark count : ℕ) (g : Ledger) (h k : List Call) → going mark count g (h ++ k) ≡ going mark count (going mark count g h) k

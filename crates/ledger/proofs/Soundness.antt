@@ -1,6 +1,6 @@
 -- Every ledger is sound.
-use Rattle.std.proofs.Common.{◌≡◌, ℕ, suc, ◌<◌, ◌≤◌, Bool, true, false, cond, ◌||◌, eqb, ltb, List, [], ◌∷◌, length, is_some, Some, None, Option, unwrap_or, sym, refl, ap, ◌∙◌, subst, arith}
-use Rattle.std.specs.List.{AllByRecursion as All}
+use Rattle.std.proofs.Common.{◌≡◌, ℕ, suc, ◌<◌, ◌≤◌, Bool, true, false, cond, eqb, ltb, List, [], ◌∷◌, length, Some, None, Option, unwrap_or, sym, refl, ap, ◌∙◌, subst, arith}
+use Rattle.std.specs.List.{AllByRecursion}
 use Rattle.std.proofs.lemmas.Bool.{or_parts, or_from, eqb-true, eqb-false, ne_eqb, ltb-true}
 use Rattle.notices.specs.declared.notice.Notice.{Notice}
 use Rattle.model.specs.declared.refusal.Refusal.{Refusal}
@@ -35,15 +35,15 @@ apart_lift k (m ∷ ms) a =
     elim (eqb m.service k) as (λ b. Apart (cond b ms (m ∷ lift_from k ms))) [ true ↦ a.1 | false ↦ (has_lift m.service k ms a.0, apart_lift k ms a.1) ]
 
 module _ (P : Notice → Type 0) where
-  all_put : (n : Notice) (ns : List Notice) → P n → All P ns → All P (put_in n ns)
+  all_put : (n : Notice) (ns : List Notice) → P n → AllByRecursion P ns → AllByRecursion P (put_in n ns)
   all_put n [] p a = (p, tt)
   all_put n (m ∷ ms) p a =
-      elim (eqb m.service n.service) as (λ b. All P (cond b (n ∷ ms) (m ∷ put_in n ms))) [ true ↦ (p, a.1) | false ↦ (a.0, all_put n ms p a.1) ]
+      elim (eqb m.service n.service) as (λ b. AllByRecursion P (cond b (n ∷ ms) (m ∷ put_in n ms))) [ true ↦ (p, a.1) | false ↦ (a.0, all_put n ms p a.1) ]
 
-  all_lift : (k : ℕ) (ns : List Notice) → All P ns → All P (lift_from k ns)
+  all_lift : (k : ℕ) (ns : List Notice) → AllByRecursion P ns → AllByRecursion P (lift_from k ns)
   all_lift k [] a = tt
   all_lift k (m ∷ ms) a =
-      elim (eqb m.service k) as (λ b. All P (cond b ms (m ∷ lift_from k ms))) [ true ↦ a.1 | false ↦ (a.0, all_lift k ms a.1) ]
+      elim (eqb m.service k) as (λ b. AllByRecursion P (cond b ms (m ∷ lift_from k ms))) [ true ↦ a.1 | false ↦ (a.0, all_lift k ms a.1) ]
 
 others_none : (s : ℕ) (ns : List Notice) → has s ns ≡ false → others s ns ≡ length ns
 others_none s [] h = refl

@@ -1,6 +1,6 @@
 -- What holds of every ledger.
 use Rattle.std.specs.Prelude.{◌≡◌, ℕ, ◌≤◌, true, false, List, [], ◌∷◌, ◌++◌, length, Some, None, Option}
-use Rattle.std.specs.List.{AllByRecursion as All}
+use Rattle.std.specs.List.{AllByRecursion}
 use Rattle.model.specs.declared.enquiry.Enquiry.{Enquiry}
 use Rattle.model.specs.declared.refusal.Refusal.{Refusal}
 use Rattle.notices.specs.declared.notice.Notice.{Notice}
@@ -14,7 +14,7 @@ Apart (n ∷ ns) = (has n.service ns ≡ false) × Apart ns
 
 -- notices in range and of the book's services, one for a service, at most sixty-four
 pub record Fit (count : ℕ) (ns : List Notice) : Type 0 where
-  pub ranged : All (λ n. allowed count n ≡ true) ns
+  pub ranged : AllByRecursion (λ n. allowed count n ≡ true) ns
   pub apart : Apart ns
   pub few : length ns ≤ 64
 

@@ -1,5 +1,5 @@
 -- The lines that an enquiry is answered by, as bytes, without the line's end.
-use Rattle.std.specs.Prelude.{ℕ, cond, List, [], ◌∷◌, ◌++◌, codes, decimal, ◌==◌}
+use Rattle.std.specs.Prelude.{ℕ, cond, List, ◌++◌, codes, decimal, ◌==◌}
 use Rattle.std.proofs.Math.Utf8.{encode}
 use Rattle.model.specs.declared.enquiry.Enquiry.{Enquiry}
 use Rattle.model.specs.declared.enquiry.Found.{Found}

@@ -1,4 +1,6 @@
 //! The lines that a program prints of an enquiry's answer.
+#![tactic(auto)]
+
 ghost use Rattle.std.specs.Prelude.{◌≡◌, Some};
 ghost use Rattle.lines.specs.Lines.{journey_text, leg_text, letter_of, refused_text, fault_text, layer_text};
 

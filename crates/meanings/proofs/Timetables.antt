@@ -1,6 +1,6 @@
 -- A timetable book is a book, and its answers are least arrivals.
 use Rattle.std.proofs.Common.{◌≡◌, ℕ, zero, suc, ◌+◌, ◌<◌, ◌≤◌, Bool, true, false, cond, leb, List, [], ◌∷◌, ◌++◌, length, get_or, take, drop, Some, None, Option, refl, ap, ◌∙◌, ⊎_elim, arith}
-use Rattle.std.specs.List.{AllByRecursion as All}
+use Rattle.std.specs.List.{AllByRecursion}
 use Rattle.std.proofs.lemmas.Bool.{le-leb, lt-leb, cases_lt}
 use Rattle.std.proofs.ByRecursion.{All-from_get_or}
 use Rattle.std.proofs.lemmas.List.{map_more, get_or_default}
@@ -48,11 +48,11 @@ sooner_no_later a None (Some c) h = absurd h
 sooner_no_later a (Some b) None h = tt
 sooner_no_later a (Some b) (Some c) h = omega arith
 
-earliest_late : (cs : List Connection) → All TimelyOne cs → (t : ℕ) → horizon < t → earliest cs t ≡ None
+earliest_late : (cs : List Connection) → AllByRecursion TimelyOne cs → (t : ℕ) → horizon < t → earliest cs t ≡ None
 earliest_late [] s t h = refl
 earliest_late (c ∷ cs) s t h = earliest_missed c cs t (omega arith) ∙ earliest_late cs s.1 t h
 
-earliest_forward : (cs : List Connection) → All TimelyOne cs → (t : ℕ) → Within t horizon (earliest cs t)
+earliest_forward : (cs : List Connection) → AllByRecursion TimelyOne cs → (t : ℕ) → Within t horizon (earliest cs t)
 earliest_forward [] s t = tt
 earliest_forward (c ∷ cs) s t = ⊎_elim
     (λ h. rw (earliest_missed c cs t h) (earliest_forward cs s.1 t))
@@ -69,7 +69,7 @@ earliest_fifo (c ∷ cs) t u h = ⊎_elim
     (λ m. let k : t ≤ c.departure = omega arith in rw (earliest_caught c cs u m, earliest_caught c cs t k) (sooner_mono c.arrival (earliest cs t) (earliest cs u) (earliest_fifo cs t u h)))
     (cases_lt c.departure u)
 
-pub earliest_fair : (cs : List Connection) → All TimelyOne cs → Fair (earliest cs)
+pub earliest_fair : (cs : List Connection) → AllByRecursion TimelyOne cs → Fair (earliest cs)
 earliest_fair cs s = record { late = earliest_late cs s; forward = earliest_forward cs s; fifo = earliest_fifo cs }
 
 pub timetabled_lawful : (cs : List Connection) (spans : List Span) → length spans ≤ most_services → Each Forward cs spans → Each Timely cs spans → LawfulBook (length spans) (timetabled cs spans)

@@ -1,14 +1,14 @@
 -- What the edits of a table's row of items do to the list that it holds.
-use Rattle.std.proofs.Common.{◌≡◌, ℕ, suc, ◌+◌, ◌-◌, ◌<◌, ◌≤◌, Bool, true, false, cond, eqb, ltb, ◌≢◌, List, [], ◌∷◌, ◌++◌, length, get_or, take, drop, set, Some, None, Option, sym, refl, ap, ◌∙◌, subst, ⊎_elim, arith}
+use Rattle.std.proofs.Common.{◌≡◌, ℕ, ◌+◌, ◌-◌, ◌<◌, ◌≤◌, true, false, eqb, ◌≢◌, List, length, get_or, take, drop, set, Some, None, Option, sym, refl, ap, ◌∙◌, ⊎_elim, arith}
 use lib.Seq.{take-set-lt}
 use Rattle.std.specs.List.{remove}
-use Rattle.std.proofs.lemmas.List.{length-take-le, length-set, get_or-take, get_or_default, get_or-set_same, get_or-set_other, take_more_set, ext_get_or, at_drop_all}
+use Rattle.std.proofs.lemmas.List.{length-take-le, get_or-take, get_or-set_same, get_or-set_other, take_more_set, ext_get_or, at_drop_all}
 use Rattle.std.proofs.lemmas.List.Edits.{length-remove, get_or-remove_below, get_or-remove_above}
 use Rattle.std.proofs.lemmas.Bool.{cases_lt, cases_eq, lt-ltb, le-ltb, cond-true, cond-false}
 use Rattle.notices.specs.declared.notice.Notice.{Notice}
 use Rattle.model.specs.declared.refusal.Refusal.{Refusal}
 use Rattle.model.specs.declared.refusal.Refusal.TheVariants.{NoticesFull, NothingToLift}
-use Rattle.notices.specs.Notices.{place_of, others, has, put_in, lift_from, amended, notice_of, put_refusal, lift_refusal, unless}
+use Rattle.notices.specs.Notices.{place_of, others, put_in, lift_from, amended, notice_of, put_refusal, lift_refusal, unless}
 use Rattle.notices.proofs.Places.{place_le, place_on, place_here, place_service, others_le, others_fewer, others_all, put_set, put_push, has_place, lift_removed, amended_same, notice_here, notice_none}
 
 abbrev pub blank : Notice

@@ -1,4 +1,6 @@
 //! Notices of late and shut services: what they make of a book, the table of 64, and the book that stands under them.
+#![tactic(auto)]
+
 mod example;
 mod notice;
 mod notice_book;

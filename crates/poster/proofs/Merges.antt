@@ -1,6 +1,6 @@
 -- One step of a merge, and what the whole of it lists.
 use Rattle.std.proofs.Common.{◌≡◌, ℕ, zero, suc, ◌+◌, ◌-◌, ◌<◌, ◌≤◌, Bool, true, false, cond, eqb, ◌⊎◌, List, [], ◌∷◌, ◌++◌, map, length, get_or, drop, set, sum_by, sym, refl, ap, ◌∙◌, subst, inl, inr, ⊎_elim, arith, length-append}
-use Rattle.std.specs.List.{ContainsAt as Has, AllByRecursion as All}
+use Rattle.std.specs.List.{ContainsAt as Has, AllByRecursion}
 use Rattle.std.specs.List.Sorted.{IsPermutation}
 use Rattle.std.proofs.ByRecursion.{All-push, All-weaker, has_append_left, has_push, all_shuffled, has_shuffled}
 use Rattle.std.proofs.lemmas.List.Sorted.{sum_by-IsPermutation}
@@ -16,13 +16,13 @@ use Rattle.poster.specs.Orders.{order, lex_next, lex_other, has_cases, has_front
 
 -- ---- how many of a list are on an arc
 
-pub none_on : (a : ℕ) (ys : List Departure) → sum_by (on a) ys ≡ 0 → All (λ y. y.arc ≡ a → ⊥) ys
+pub none_on : (a : ℕ) (ys : List Departure) → sum_by (on a) ys ≡ 0 → AllByRecursion (λ y. y.arc ≡ a → ⊥) ys
 none_on a [] e = tt
 none_on a (y ∷ ys) e =
     let c : sum_by (on a) (y ∷ ys) ≡ on a y + sum_by (on a) ys = sum_by-cons (on a) y ys in
     (λ h. let one : on a y ≡ 1 = ap (λ b. cond b 1 0) (eq-eqb y.arc a h) in absurd (omega arith), none_on a ys (omega arith))
 
-pub on_none : (a : ℕ) (ys : List Departure) → All (λ y. y.arc ≡ a → ⊥) ys → sum_by (on a) ys ≡ 0
+pub on_none : (a : ℕ) (ys : List Departure) → AllByRecursion (λ y. y.arc ≡ a → ⊥) ys → sum_by (on a) ys ≡ 0
 on_none a [] h = refl
 on_none a (y ∷ ys) h =
     let none : on a y ≡ 0 = ap (λ b. cond b 1 0) (ne_eqb y.arc a h.0) in
@@ -68,7 +68,7 @@ module _ (l : Listing) (Arcs : ℕ → Type 0) (count : ℕ) where
   listed_shuffled done q r s h = record {
     listed = h.listed;
     ascending = h.ascending;
-    behind = All-weaker (λ z. All (λ y. departure_before z y ≡ true) q) (λ z. All (λ y. departure_before z y ≡ true) r) (λ z. all_shuffled (λ y. departure_before z y ≡ true) q r s) done h.behind;
+    behind = All-weaker (λ z. AllByRecursion (λ y. departure_before z y ≡ true) q) (λ z. AllByRecursion (λ y. departure_before z y ≡ true) r) (λ z. all_shuffled (λ y. departure_before z y ≡ true) q r s) done h.behind;
     due = all_shuffled (DueOn l Arcs) q r s h.due;
     one_each = λ a. let e : sum_by (on a) r ≡ sum_by (on a) q = sum_by-IsPermutation (on a) q r s in let o : sum_by (on a) q ≤ 1 = h.one_each a in omega arith;
     ahead = λ d p. elim (h.ahead d p) [
@@ -89,27 +89,27 @@ module _ (l : Listing) (Arcs : ℕ → Type 0) (count : ℕ) where
     counted = let o : length done + sum_by (left l) [] ≡ count = h.counted in omega arith;
   }
 
-  module _ (up : (a : ℕ) → Rising (line l a)) (done rest : List Departure) (x : Departure) (s : Listed l Arcs done (x ∷ rest) count) (least : All (λ y. departure_before y x ≡ false) rest) where
+  module _ (up : (a : ℕ) → Rising (line l a)) (done rest : List Departure) (x : Departure) (s : Listed l Arcs done (x ∷ rest) count) (least : AllByRecursion (λ y. departure_before y x ≡ false) rest) where
     x_due : DueOn l Arcs x
     x_due = s.due.0
 
     -- the others are on other arcs
-    others : All (λ y. y.arc ≡ x.arc → ⊥) rest
+    others : AllByRecursion (λ y. y.arc ≡ x.arc → ⊥) rest
     others =
         let c : sum_by (on x.arc) (x ∷ rest) ≡ on x.arc x + sum_by (on x.arc) rest = sum_by-cons (on x.arc) x rest in
         let one : on x.arc x ≡ 1 = ap (λ b. cond b 1 0) (eq-eqb x.arc x.arc refl) in
         let most : sum_by (on x.arc) (x ∷ rest) ≤ 1 = s.one_each x.arc in
         none_on x.arc rest (omega arith)
 
-    after : All (λ y. departure_before x y ≡ true) rest
+    after : AllByRecursion (λ y. departure_before x y ≡ true) rest
     after = all_both (λ y. departure_before y x ≡ false) (λ y. y.arc ≡ x.arc → ⊥) (λ y. departure_before x y ≡ true)
         (λ y h o. lex_other x.departure x.arc x.place y.departure y.arc y.place h o) rest least others
 
-    done_before : All (λ z. departure_before z x ≡ true) done
-    done_before = All-weaker (λ z. All (λ y. departure_before z y ≡ true) (x ∷ rest)) (λ z. departure_before z x ≡ true) (λ z h. h.0) done s.behind
+    done_before : AllByRecursion (λ z. departure_before z x ≡ true) done
+    done_before = All-weaker (λ z. AllByRecursion (λ y. departure_before z y ≡ true) (x ∷ rest)) (λ z. departure_before z x ≡ true) (λ z h. h.0) done s.behind
 
-    behind_rest : All (λ z. All (λ y. departure_before z y ≡ true) rest) done
-    behind_rest = All-weaker (λ z. All (λ y. departure_before z y ≡ true) (x ∷ rest)) (λ z. All (λ y. departure_before z y ≡ true) rest) (λ z h. h.1) done s.behind
+    behind_rest : AllByRecursion (λ z. AllByRecursion (λ y. departure_before z y ≡ true) rest) done
+    behind_rest = All-weaker (λ z. AllByRecursion (λ y. departure_before z y ≡ true) (x ∷ rest)) (λ z. AllByRecursion (λ y. departure_before z y ≡ true) rest) (λ z h. h.1) done s.behind
 
     longer : length (done ++ x ∷ []) ≡ length done + 1
     longer = length-append done (x ∷ [])
@@ -128,7 +128,7 @@ module _ (l : Listing) (Arcs : ℕ → Type 0) (count : ℕ) where
     listed_last over = record {
       listed = All-push (DueOn l Arcs) done x s.listed x_due;
       ascending = ascending_push done x s.ascending done_before;
-      behind = All-push (λ z. All (λ y. departure_before z y ≡ true) rest) done x behind_rest after;
+      behind = All-push (λ z. AllByRecursion (λ y. departure_before z y ≡ true) rest) done x behind_rest after;
       due = s.due.1;
       one_each = λ a. let c : sum_by (on a) (x ∷ rest) ≡ on a x + sum_by (on a) rest = sum_by-cons (on a) x rest in let o : sum_by (on a) (x ∷ rest) ≤ 1 = s.one_each a in omega arith;
       ahead = λ d p. elim (s.ahead d p) [
@@ -157,8 +157,8 @@ module _ (l : Listing) (Arcs : ℕ → Type 0) (count : ℕ) where
         record {
           listed = All-push (DueOn l Arcs) done x s.listed x_due;
           ascending = ascending_push done x s.ascending done_before;
-          behind = All-push (λ z. All (λ y. departure_before z y ≡ true) (e ∷ rest)) done x
-              (all_both (λ z. departure_before z x ≡ true) (λ z. All (λ y. departure_before z y ≡ true) rest) (λ z. All (λ y. departure_before z y ≡ true) (e ∷ rest))
+          behind = All-push (λ z. AllByRecursion (λ y. departure_before z y ≡ true) (e ∷ rest)) done x
+              (all_both (λ z. departure_before z x ≡ true) (λ z. AllByRecursion (λ y. departure_before z y ≡ true) rest) (λ z. AllByRecursion (λ y. departure_before z y ≡ true) (e ∷ rest))
               (λ z h k. (order.transitive z x e h follows, k)) done done_before behind_rest)
               (follows, after);
           due = (next_due l Arcs up x x_due more, s.due.1);

@@ -1,6 +1,6 @@
 -- One row of a poster written.
 use Rattle.std.proofs.Common.{◌≡◌, ℕ, ◌+◌, ◌-◌, ◌<◌, ◌≤◌, false, List, [], ◌∷◌, ◌++◌, map, length, get_or, drop, set, Some, None, sum_by, Option, sym, refl, ap, ◌∙◌, subst, arith, length-append}
-use Rattle.std.specs.List.{AllByRecursion as All}
+use Rattle.std.specs.List.{AllByRecursion}
 use Rattle.std.specs.List.Sorted.{IsPermutation}
 use Rattle.std.proofs.ByRecursion.{all_shuffled}
 use Rattle.std.proofs.lemmas.List.Sums.{sum_by-cons}
@@ -53,7 +53,7 @@ module _ (l : Listing) (count : ℕ) where
         omega arith
 
     module _ (up : (a : ℕ) → Rising (line l a)) (first : FirstOut departure_before (Some x) q) where
-      least : All (λ y. departure_before y x ≡ false) rest
+      least : AllByRecursion (λ y. departure_before y x ≡ false) rest
       least = (all_shuffled (λ y. departure_before y x ≡ false) q (x ∷ rest) took.removed first).1
 
       next_state : (o : Option Departure) → At (line l x.arc) x.arc (x.place + 1) o → (r : List Departure) → Added rest o r → Listed l (Leaves l) (w.done ++ x ∷ []) r count

@@ -1,6 +1,6 @@
 -- The order of the departures of a board.
 use Rattle.std.specs.Prelude.{◌≡◌, Bool, true, List, [], ◌∷◌}
-use Rattle.std.specs.List.{AllByRecursion as All}
+use Rattle.std.specs.List.{AllByRecursion}
 use Rattle.queue.specs.Lex.{lex}
 use Rattle.poster.specs.declared.departure.Departure.{Departure}
 
@@ -11,4 +11,4 @@ departure_before x y = lex x.departure x.arc x.place y.departure y.arc y.place
 -- every departure of a list is before all that follow it
 abbrev pub Ascending : List Departure → Type 0
 Ascending [] = Unit {0}
-Ascending (x ∷ xs) = All (λ y. departure_before x y ≡ true) xs × Ascending xs
+Ascending (x ∷ xs) = AllByRecursion (λ y. departure_before x y ≡ true) xs × Ascending xs

@@ -1,6 +1,6 @@
 -- The merge of the lists of the arcs that leave a stop: what the queue holds while it runs.
 use Rattle.std.specs.Prelude.{◌≡◌, ℕ, ◌+◌, ◌-◌, ◌<◌, ◌≤◌, Bool, true, cond, ◌⊎◌, List, [], ◌∷◌, ◌++◌, map, length, drop, Some, None, sum_by, Option, ◌==◌, nat_le, slice_index_or}
-use Rattle.std.specs.List.{ContainsAt as Has, AllByRecursion as All}
+use Rattle.std.specs.List.{ContainsAt as Has, AllByRecursion}
 use Rattle.std.specs.List.Sorted.{IsPermutation}
 use Rattle.model.specs.declared.tables.Connection.{Connection}
 use Rattle.model.specs.declared.tables.Span.{Span}
@@ -64,24 +64,24 @@ module _ (l : Listing) where
 
   -- the queue at its start: the first departure due on each of some arcs that has one
   pub record Begun (Arcs : ℕ → Type 0) (queued : List Departure) (count : ℕ) : Type 0 where
-    pub due : All (DueOn Arcs) queued
+    pub due : AllByRecursion (DueOn Arcs) queued
     pub one_each : (a : ℕ) → sum_by (on a) queued ≤ 1
     pub ahead : (d : Departure) → DueOn Arcs d → Ahead queued d
     pub counted : count ≡ sum_by left queued
 
   -- some departures are listed, and the queue holds the next one on each arc that has one
   pub record Listed (Arcs : ℕ → Type 0) (done queued : List Departure) (count : ℕ) : Type 0 where
-    pub listed : All (DueOn Arcs) done
+    pub listed : AllByRecursion (DueOn Arcs) done
     pub ascending : Ascending done
-    pub behind : All (λ z. All (λ y. departure_before z y ≡ true) queued) done
-    pub due : All (DueOn Arcs) queued
+    pub behind : AllByRecursion (λ z. AllByRecursion (λ y. departure_before z y ≡ true) queued) done
+    pub due : AllByRecursion (DueOn Arcs) queued
     pub one_each : (a : ℕ) → sum_by (on a) queued ≤ 1
     pub ahead : (d : Departure) → DueOn Arcs d → Has done d ⊎ Ahead queued d
     pub counted : length done + sum_by left queued ≡ count
 
   -- all are listed
   pub record AllListed (Arcs : ℕ → Type 0) (done : List Departure) (count : ℕ) : Type 0 where
-    pub listed : All (DueOn Arcs) done
+    pub listed : AllByRecursion (DueOn Arcs) done
     pub ascending : Ascending done
     pub all : (d : Departure) → DueOn Arcs d → Has done d
     pub counted : length done ≡ count

@@ -1,7 +1,7 @@
 -- The order of departures.
 use Rattle.std.specs.Prelude.{◌≡◌, ℕ, zero, suc, ◌+◌, ◌<◌, ◌≤◌, Bool, true, false, ◌⊎◌, List, [], ◌∷◌, ◌++◌, length, ◌≢◌, refl}
 use Rattle.std.proofs.Common.{sym, subst, ◌∙◌, inl, inr, arith}
-use Rattle.std.specs.List.{ContainsAt as Has, AllByRecursion as All}
+use Rattle.std.specs.List.{ContainsAt as Has, AllByRecursion}
 use Rattle.std.specs.List.Sorted.{IsPermutation}
 use Rattle.std.proofs.ByRecursion.{All-push, all-has, All-weaker, all_shuffled}
 use Rattle.std.proofs.lemmas.List.Sorted.{IsPermutation-refl, IsPermutation-sym, IsPermutation-cons, IsPermutation-swap, IsPermutation-trans}
@@ -36,12 +36,12 @@ has_front x xs = (0, omega arith, λ d. refl)
 pub has_behind : {X : Type 0} (x : X) (xs : List X) (y : X) → Has xs y → Has (x ∷ xs) y
 has_behind x xs y h = let lt : h.0 < length xs = h.1 in (suc h.0, omega arith, h.2)
 
-pub all_both : {X : Type 0} (P Q R : X → Type 0) → ((x : X) → P x → Q x → R x) → (xs : List X) → All P xs → All Q xs → All R xs
+pub all_both : {X : Type 0} (P Q R : X → Type 0) → ((x : X) → P x → Q x → R x) → (xs : List X) → AllByRecursion P xs → AllByRecursion Q xs → AllByRecursion R xs
 all_both P Q R f [] p q = tt
 all_both P Q R f (x ∷ xs) p q = (f x p.0 q.0, all_both P Q R f xs p.1 q.1)
 
 -- what is after all of a list comes at its end
-pub ascending_push : (xs : List Departure) (x : Departure) → Ascending xs → All (λ z. departure_before z x ≡ true) xs → Ascending (xs ++ x ∷ [])
+pub ascending_push : (xs : List Departure) (x : Departure) → Ascending xs → AllByRecursion (λ z. departure_before z x ≡ true) xs → Ascending (xs ++ x ∷ [])
 ascending_push [] x s a = (tt, tt)
 ascending_push (z ∷ xs) x s a = (All-push (λ y. departure_before z y ≡ true) xs x s.0 a.0, ascending_push xs x s.1 a.1)
 
@@ -50,7 +50,7 @@ pub record LeastFirst (xs : List Departure) : Type 0 where
   pub first : Departure
   pub rest : List Departure
   pub shuffled : IsPermutation xs (first ∷ rest)
-  pub least : All (λ y. departure_before y first ≡ false) rest
+  pub least : AllByRecursion (λ y. departure_before y first ≡ false) rest
 
 exchanged_front : (x y : Departure) (rest : List Departure) → IsPermutation (x ∷ (y ∷ rest)) (y ∷ (x ∷ rest))
 exchanged_front x y rest = IsPermutation-swap (x ∷ (y ∷ rest)) (y ∷ (x ∷ rest)) 0 1 (omega arith) (omega arith) refl
@@ -65,7 +65,7 @@ least_first x (z ∷ zs) = go (least_first z zs)
         by : (b : Bool) → departure_before x f.first ≡ b → LeastFirst (x ∷ (z ∷ zs))
         by true e =
             let behind : departure_before f.first x ≡ false = one_way departure_before order x f.first e in
-            let all : All (λ y. departure_before y x ≡ false) (f.first ∷ f.rest)
+            let all : AllByRecursion (λ y. departure_before y x ≡ false) (f.first ∷ f.rest)
             = (behind, All-weaker (λ y. departure_before y f.first ≡ false) (λ y. departure_before y x ≡ false) (λ y h. chain departure_before order y f.first x h behind) f.rest f.least) in
             record {
               first = x;
@@ -85,7 +85,7 @@ never_itself : (x : Departure) → departure_before x x ≢ true
 never_itself x h = both_ways (departure_before x x) (order.irreflexive x) h
 
 -- what is behind equal fronts is alike
-behind_front : (u : Departure) (us : List Departure) (v : Departure) (vs : List Departure) → v ≡ u → All (λ z. departure_before u z ≡ true) us
+behind_front : (u : Departure) (us : List Departure) (v : Departure) (vs : List Departure) → v ≡ u → AllByRecursion (λ z. departure_before u z ≡ true) us
     → ((d : Departure) → Has (u ∷ us) d → Has (v ∷ vs) d) → (d : Departure) → Has us d → Has vs d
 behind_front u us v vs e after all d h =
     elim (has_cases v vs d (all d (has_behind u us d h))) [

@@ -9,7 +9,7 @@ use Rattle.wire.specs.Places.{Step}
 use Rattle.wire.proofs.Laws.{then_ok, same_step}
 use Rattle.wire.proofs.Steps.{prepend}
 use Rattle.formats.specs.NetworkFile.{form, stop_count, stop, stops, run_count, walk, walks, connection_count, connection, departed, timetable, timetables, point_count, point, passed, road, roads, arc_count, arc, left, arcs, Runs, contents_of, network}
-use Rattle.records.specs.Stream.{Rec, a_stop, a_walk, a_connection, a_point, an_arc, numbered, records_of, Told, before, told_by, streamed, listed, ended, arc_run, road_run, timetable_run, walk_run, stop_run, whole, told, collected}
+use Rattle.records.specs.Stream.{Rec, a_stop, a_walk, a_connection, a_point, an_arc, numbered, records_of, Told, before, told_by, streamed, listed, ended, arc_run, road_run, timetable_run, walk_run, stop_run, told, collected}
 
 -- steps, one after the other
 

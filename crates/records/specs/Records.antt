@@ -1,5 +1,5 @@
 -- What a reader of records has yet to hand out.
-use Rattle.std.specs.Prelude.{◌≡◌, ℕ, ◌+◌, ◌*◌, List, [], ◌∷◌, Some, None, Ok, Err, Option, Result}
+use Rattle.std.specs.Prelude.{◌≡◌, ℕ, ◌+◌, ◌*◌, List, [], Some, None, Ok, Err, Option, Result}
 use Rattle.wire.specs.declared.fault.Fault.{Fault}
 use Rattle.wire.specs.Readers.{file}
 use Rattle.formats.specs.NetworkFile.{stop, walk, connection_count, connection, departed, point_count, point, passed, arc, left}

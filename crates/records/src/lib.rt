@@ -1,4 +1,6 @@
 //! The records of a network file, handed out one at a time.
+#![tactic(auto)]
+
 mod fields;
 mod record;
 mod records;

@@ -1,4 +1,4 @@
-use Rattle.std.proofs.Common.{◌≡◌, ◌≤◌, length, sym, ap, ◌∙◌, arith}
+use Rattle.std.proofs.Common.{◌≤◌, length, sym, ap, ◌∙◌, arith}
 use Rattle.notices.specs.Notices.{handing, lift_from}
 use Rattle.notices.specs.Tables.{listed}
 use Rattle.notices.proofs.Rows.{closing_more, closing_all, none_to_lift, one_to_lift, done, undone}

@@ -1,4 +1,4 @@
-use Rattle.std.proofs.Common.{◌≡◌, ◌≤◌, length, arith, eq-eqb}
+use Rattle.std.proofs.Common.{arith, eq-eqb}
 use Rattle.std.proofs.lemmas.Bool.{ne_eqb}
 use Rattle.notices.proofs.Rows.{walk_here, walk_on, walk_past}
 use Rattle.notices.proofs.table.NoticeTable.place.Goals as goal

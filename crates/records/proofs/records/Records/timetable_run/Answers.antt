@@ -7,14 +7,14 @@ use Rattle.records.specs.Stream.{a_walk, a_connection, listed, timetable_run, ro
 use Rattle.records.proofs.Handing.{at_section, streamed_none, told_ok, told_err}
 use Rattle.records.proofs.records.Records.timetable_run.Goals as goal
 
-pub returns-in-err-count : goal.returns-in-err-count
-returns-in-err-count c =
+pub returns-in_err-count : goal.returns-in_err-count
+returns-in_err-count c =
     let r = c.args.self.now in
-    let p = err_from_is_err_and c.from-residual.result c.from-residual.ensures.1 in
-    rw (p.1, p.2) (record { says = at_section r c.requires ∙ streamed_none {S = Unit {0}} (λ _. walk) (λ _ _. tt) a_walk (timetable_run r.stops r.walks) tt 0 _ _ refl ∙ told_err (λ bs n q. listed connection_count connection departed 0 a_connection (road_run r.stops r.walks n) (r.walks + n) n bs q) c.number-in.ensures c.in-err-count.was; falls = rw c.requires (omega arith); over = refl })
+    let p = err_from_is_err_and c.from_residual.result c.from_residual.ensures.1 in
+    rw (p.1, p.2) (record { says = at_section r c.requires ∙ streamed_none {S = Unit {0}} (λ _. walk) (λ _ _. tt) a_walk (timetable_run r.stops r.walks) tt 0 _ _ refl ∙ told_err (λ bs n q. listed connection_count connection departed 0 a_connection (road_run r.stops r.walks n) (r.walks + n) n bs q) c.number_in.ensures c.in_err-count.was; falls = rw c.requires (omega arith); over = refl })
 
 pub returns : goal.returns
 returns c =
     let r = c.args.self.now in
-    let range = in_range 0 4096 ServiceField (lit< tt) c.number-in.ensures c.in-ok-count.was in
-    record { says = at_section r c.requires ∙ streamed_none {S = Unit {0}} (λ _. walk) (λ _ _. tt) a_walk (timetable_run r.stops r.walks) tt 0 _ _ refl ∙ told_ok (λ bs n q. listed connection_count connection departed 0 a_connection (road_run r.stops r.walks n) (r.walks + n) n bs q) c.number-in.ensures c.in-ok-count.was; falls = rw c.requires (omega arith); over = tt }
+    let range = in_range 0 4096 ServiceField (lit< tt) c.number_in.ensures c.in_ok-count.was in
+    record { says = at_section r c.requires ∙ streamed_none {S = Unit {0}} (λ _. walk) (λ _ _. tt) a_walk (timetable_run r.stops r.walks) tt 0 _ _ refl ∙ told_ok (λ bs n q. listed connection_count connection departed 0 a_connection (road_run r.stops r.walks n) (r.walks + n) n bs q) c.number_in.ensures c.in_ok-count.was; falls = rw c.requires (omega arith); over = tt }
