@@ -1,5 +1,5 @@
 -- What a push and a pop do to the agenda of a search.
-use Rattle.std.proofs.Common.{◌≡◌, ℕ, zero, suc, ◌+◌, ◌*◌, ◌<◌, ◌≤◌, Bool, true, false, cond, not, ◌&&◌, eqb, ◌⊎◌, List, [], ◌∷◌, length, get_or, set, Some, None, Option, sym, refl, ap, ◌∙◌, subst, inl, inr, arith}
+use Rattle.std.proofs.Common.{◌≡◌, ℕ, zero, suc, ◌<◌, Bool, true, false, not, ◌&&◌, eqb, ◌⊎◌, List, [], ◌∷◌, length, get_or, set, Some, None, Option, sym, refl, ap, ◌∙◌, subst, inl, inr, arith}
 use Rattle.std.specs.List.{ContainsAt as Has, AllByRecursion}
 use Rattle.std.proofs.ByRecursion.{All-weaker}
 use Rattle.std.proofs.lemmas.List.{get_or-set_same, get_or-set_other}
@@ -8,17 +8,17 @@ use Rattle.std.proofs.lemmas.Bool.Decides.{nat_tests}
 use Rattle.model.specs.Trips.{Upto2, Upto3}
 use Rattle.model.proofs.Options.{not_none, one_some}
 use Rattle.labels.specs.declared.label.Label.{Label}
-use Rattle.labels.specs.Table.{better, settle}
+use Rattle.labels.specs.Table.{settle}
 use Rattle.labels.specs.Rows.{Rows, Waits, Foremost, improves}
 use Rattle.labels.proofs.Tables.{better_true}
 use Rattle.labels.proofs.Searching.{row_below}
 use Rattle.queue.specs.declared.queue.Queue.{Queue}
-use Rattle.queue.specs.Contents.{contents, capacity, Ready, Took, Put, FirstOut}
+use Rattle.queue.specs.Contents.{contents, Ready, Took, Put, FirstOut}
 use Rattle.queue.specs.Lex.{lex}
 use Rattle.queue.proofs.Facts.{all_put, has_put, all_took, has_took, least_took}
 use Rattle.engine.specs.declared.entry.Entry.{Entry}
 use Rattle.engine.specs.Before.{entry_before}
-use Rattle.engine.specs.Agenda.{entry, queued, Known, Agenda, Due}
+use Rattle.engine.specs.Agenda.{entry, queued, Known, Agenda}
 
 -- the front of a list, or what is behind it
 has_cases : {X : Type 0} (x : X) (xs : List X) (y : X) → Has (x ∷ xs) y → (x ≡ y) ⊎ Has xs y

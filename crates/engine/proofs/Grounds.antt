@@ -1,12 +1,12 @@
 -- What a network gives to a search: the arcs that leave a stop, and a row for each place that an arc leads to.
-use Rattle.std.proofs.Common.{◌≡◌, ℕ, ◌+◌, ◌-◌, ◌*◌, ◌/◌, ◌^◌, ◌<◌, ◌≤◌, List, length, get_or, set, Some, sym, refl, ap, ◌∙◌, subst, arith}
+use Rattle.std.proofs.Common.{◌≡◌, ℕ, ◌+◌, ◌-◌, ◌*◌, ◌/◌, ◌<◌, ◌≤◌, List, get_or, set, Some, sym, ap, ◌∙◌, subst, arith}
 use Rattle.std.specs.List.{slice_get}
 use Rattle.std.proofs.lemmas.Option.{slice_get-get_or}
 use Rattle.std.proofs.lemmas.Nat.{mul-add-lt, mul-le}
 use Rattle.model.specs.declared.network.Arc.{Arc}
 use Rattle.model.proofs.Options.{one_some}
 use Rattle.network.specs.declared.fault.ArcRange.{ArcRange}
-use Rattle.network.specs.Sound.{Counted, Fit, Leaving}
+use Rattle.network.specs.Sound.{Fit, Leaving}
 use Rattle.labels.specs.declared.label.Label.{Label}
 use Rattle.labels.specs.Table.{settle}
 use Rattle.labels.specs.Rows.{Rows, Room, Among, Waits, is_settled, relaxed_count}

@@ -1,11 +1,11 @@
 -- What the tests leave to rely on.
-use Rattle.std.proofs.Common.{◌≡◌, ℕ, ◌+◌, ◌*◌, ◌<◌, ◌≤◌, Bool, true, false, cond, ltb, leb, Some, None, Option, sym, refl, ap, ◌∙◌, subst, arith}
+use Rattle.std.proofs.Common.{◌≡◌, ℕ, ◌≤◌, Bool, true, false, cond, ltb, leb, Some, None, Option, sym, refl}
 use Rattle.std.proofs.lemmas.Bool.{ltb-false}
 use Rattle.model.specs.declared.enquiry.Enquiry.{Enquiry}
 use Rattle.model.specs.declared.refusal.Refusal.{Refusal}
 use Rattle.model.specs.Clock.{horizon}
 use Rattle.model.specs.Trips.{World}
-use Rattle.model.specs.Asking.{most_states, any_unserved, rows_needed, slots_needed, refusal_of}
+use Rattle.model.specs.Asking.{most_states, any_unserved, rows_needed, refusal_of}
 use Rattle.model.proofs.Options.{not_none}
 
 -- a test that is passed, and what follows it

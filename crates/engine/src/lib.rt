@@ -1,4 +1,6 @@
 //! The label-setting search over the product of a network and a rule's automaton.
+#![tactic(auto)]
+
 mod begin;
 mod entry;
 mod next;

@@ -1,5 +1,5 @@
 -- A file ends early at a place past its end.
-use Rattle.std.proofs.Common.{◌≡◌, ℕ, ◌≤◌, List, [], length, drop, Err, refl, ap, ◌∙◌, drop_of_length-le}
+use Rattle.std.proofs.Common.{◌≡◌, ℕ, ◌≤◌, List, [], length, Err, refl, ap, ◌∙◌, drop_of_length-le}
 use Rattle.model.specs.declared.refusal.Refusal.TheVariants.{FileEndsEarly}
 use Rattle.wire.specs.Numbers.{decode, groups, limited}
 use Rattle.wire.specs.Places.{Step, number_at, placed, wrong}

@@ -1,4 +1,6 @@
 //! Enquiries in an input: start, target and second, as file numbers, one enquiry after the other.
+#![tactic(auto)]
+
 ghost use Rattle.std.specs.Prelude.{◌≡◌};
 ghost use Rattle.enquiries.specs.Enquiries.{enquiry as enquiryFormat};
 

@@ -1,31 +1,29 @@
 -- A network file that is accepted holds what books and networks are made of.
-use Rattle.std.proofs.Common.{◌≡◌, ℕ, zero, suc, ◌+◌, ◌<◌, ◌≤◌, Bool, true, ◌&&◌, ltb, leb, List, [], ◌∷◌, ◌++◌, map, length, get_or, take, drop, Some, None, Ok, Err, Option, Result, sym, refl, ap, ◌∙◌, ap₂, append_assoc, zero-add, add-one, arith, length-append, length-drop, drop-drop, take_at}
+use Rattle.std.proofs.Common.{◌≡◌, ℕ, zero, suc, ◌+◌, ◌<◌, ◌≤◌, Bool, true, ◌&&◌, leb, List, [], ◌∷◌, ◌++◌, map, length, get_or, take, drop, Some, None, Ok, Err, Option, Result, sym, refl, ap, ◌∙◌, ap₂, append_assoc, zero-add, add-one, arith, length-append, length-drop, drop-drop, take_at}
 use lib.Seq.{drop-append_seam}
 use Rattle.std.proofs.lemmas.Bool.{cond-true, le-leb, leb-true, lt-ltb}
 use Rattle.model.specs.Clock.{horizon}
 use Rattle.model.specs.declared.network.Arc.{Arc}
 use Rattle.model.specs.declared.tables.Connection.{Connection}
 use Rattle.model.specs.declared.tables.Point.{Point}
-use Rattle.model.specs.declared.tables.Span.{Span}
 use Rattle.meanings.specs.Spans.{rows, most_services}
 use Rattle.meanings.specs.Walks.{longest_walk}
 use Rattle.meanings.specs.Timetables.{most_connections}
 use Rattle.meanings.specs.Roads.{most_points}
-use Rattle.books.specs.declared.fault.BookFault.{BookFault}
-use Rattle.books.specs.declared.fault.BookFault.TheVariants.{TooManyServices, WalkTooLong, ListLength, ListOutside, Row}
+use Rattle.books.specs.declared.fault.BookFault.TheVariants.{TooManyServices, WalkTooLong, ListLength, ListOutside}
 use Rattle.books.specs.declared.fault.Field.{Field}
 use Rattle.books.specs.declared.fault.Field.TheVariants.{Departure, Arrival}
-use Rattle.books.specs.Faults.{unless, or_else, first_fault, count_fault, walk_fault, walks_fault, departed, connection_fault, above, arrived, point_fault, in_row, rows_fault, list_fault, lists_fault, timetables_fault, roads_fault, verdict}
+use Rattle.books.specs.Faults.{unless, or_else, first_fault, count_fault, walk_fault, departed, connection_fault, above, arrived, point_fault, in_row, rows_fault, list_fault, verdict}
 use Rattle.network.specs.declared.fault.NetworkFault.{NetworkFault}
 use Rattle.network.specs.Sound.{Sound, InRange, Tested}
 use Rattle.network.proofs.Faultless.{sound_not_at_fault}
 use Rattle.wire.specs.Grammar.{Format, FineAll, write_all, counted}
 use Rattle.wire.specs.Numbers.{encode}
 use Rattle.formats.specs.Contents.{NetworkContents, services}
-use Rattle.formats.specs.NetworkFile.{stop, walk, connection_count, connection, Departs, departed as last-departure, timetable, point_count, point, passed, Rises, road, arc, left, walks, timetables, roads, arcs, runs_of, network, FineNetwork}
+use Rattle.formats.specs.NetworkFile.{stop, walk, connection_count, connection, Departs, departed as last-departure, point_count, point, passed, Rises, arc, left, walks, timetables, roads, arcs, FineNetwork}
 use Rattle.formats.proofs.NetworkFile.{network_lawful}
 use Rattle.files.specs.Loading.{joined, list_rows, name_rows, first_stop}
-use Rattle.files.specs.Making.{RowsHoldNames, Makes, FilesMakeBooksAndNetworks}
+use Rattle.files.specs.Making.{RowsHoldNames, FilesMakeBooksAndNetworks}
 use Rattle.files.proofs.Lists.{length_list_rows}
 
 -- no fault

@@ -1,14 +1,9 @@
 -- What a pass over the records of a file keeps, and what it leaves at the end.
-use Rattle.std.proofs.Common.{◌≡◌, ℕ, suc, ◌+◌, ◌-◌, ◌*◌, ◌<◌, ◌≤◌, Bool, true, false, cond, ◌&&◌, eqb, leb, List, [], ◌∷◌, ◌++◌, map, length, drop, Ok, Err, Result, sym, refl, ap, ◌∙◌, subst, ap₂, append_assoc, append-nil, zero-add, arith}
+use Rattle.std.proofs.Common.{◌≡◌, ℕ, suc, ◌+◌, ◌-◌, ◌*◌, ◌<◌, ◌≤◌, Bool, true, false, cond, ◌&&◌, eqb, leb, List, [], ◌∷◌, ◌++◌, map, length, Ok, Err, Result, sym, refl, ap, ◌∙◌, subst, ap₂, append_assoc, append-nil, zero-add, arith}
 use Rattle.std.proofs.lemmas.Bool.{leb-true}
-use Rattle.model.specs.declared.network.Arc.{Arc}
 use Rattle.model.specs.declared.refusal.Refusal.TheVariants.{FileTablesShort}
-use Rattle.model.specs.declared.tables.Connection.{Connection}
-use Rattle.model.specs.declared.tables.Point.{Point}
-use Rattle.model.specs.declared.tables.Span.{Span}
 use Rattle.wire.specs.declared.fault.Fault.{Fault}
 use Rattle.wire.specs.Grammar.{Format, and_then, FineAll}
-use Rattle.wire.specs.Numbers.{encode}
 use Rattle.wire.specs.Places.{Step, wrong}
 use Rattle.wire.proofs.Laws.{same_step}
 use Rattle.wire.proofs.Writing.{few_bytes}
@@ -19,13 +14,13 @@ use Rattle.records.specs.Stream.{Rec, a_stop, a_walk, a_connection, a_point, an_
 use Rattle.files.specs.declared.rows.Counts.{Counts}
 use Rattle.files.specs.declared.loading.Loaded.{Loaded}
 use Rattle.files.specs.Counting.{none, counted, counted_all, AtMost}
-use Rattle.files.specs.Filling.{Lists, Filling, extended, Short, AllShort, Bounded, stored, stored_all, counts_in}
-use Rattle.files.specs.Loading.{Tables, Accepted, over, filled, counts_of, room, measured, loads, first_stop, name_rows, list_rows, joined}
+use Rattle.files.specs.Filling.{Filling, extended, Short, AllShort, Bounded, stored, stored_all, counts_in}
+use Rattle.files.specs.Loading.{Tables, Accepted, filled, counts_of, room, measured, loads, first_stop, name_rows, list_rows, joined}
 use Rattle.files.specs.Progress.{unstored, filling}
 use Rattle.files.proofs.Counting.{one_more, none_yet}
 use Rattle.files.proofs.Storing.{front}
 use Rattle.files.proofs.Lists.{AllSome, length_list_rows}
-use Rattle.files.proofs.Filling.{counts_stored, counts_stored_all, Whole, Empty, whole, length_name_rows}
+use Rattle.files.proofs.Filling.{counts_stored_all, Empty, whole, length_name_rows}
 
 -- what the records of a file say of its contents
 

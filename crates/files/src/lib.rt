@@ -1,4 +1,6 @@
 //! Network files, loaded into tables.
+#![tactic(auto)]
+
 mod loading;
 mod rows;
 

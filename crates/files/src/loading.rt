@@ -33,7 +33,7 @@ pub fn load(
     points: &mut [Point],
     arcs: &mut [Arc],
 ) -> Result<Loaded, Fault>
-    ensures loads { (result, record { names = names.exit.now; walks = walks.new; timetables = timetables.new; connections = connections.new; roads = roads.new; points = points.new; arcs = arcs.new }) ≡ loads (network.read file.now 0) (record { names = names.entry.now; walks = walks.old; timetables = timetables.old; connections = connections.old; roads = roads.old; points = points.old; arcs = arcs.old }) }
+    ensures loads { (result, record { names = names.new; walks = walks.new; timetables = timetables.new; connections = connections.new; roads = roads.new; points = points.new; arcs = arcs.new }) ≡ loads (network.read file.now 0) (record { names = names.old; walks = walks.old; timetables = timetables.old; connections = connections.old; roads = roads.old; points = points.old; arcs = arcs.old }) }
     ensures back { WritesBack network }
     ensures named { RowsHoldNames }
     ensures made { FilesMakeBooksAndNetworks }
@@ -97,7 +97,7 @@ fn fill(
     arcs: &mut [Arc],
 )
     requires { Accepted file.now stops }
-    ensures { Fills file.now stops (record { names = names.entry.now; walks = walks.old; timetables = timetables.old; connections = connections.old; roads = roads.old; points = points.old; arcs = arcs.old }) (record { names = names.exit.now; walks = walks.new; timetables = timetables.new; connections = connections.new; roads = roads.new; points = points.new; arcs = arcs.new }) }
+    ensures { Fills file.now stops (record { names = names.old; walks = walks.old; timetables = timetables.old; connections = connections.old; roads = roads.old; points = points.old; arcs = arcs.old }) (record { names = names.new; walks = walks.new; timetables = timetables.new; connections = connections.new; roads = roads.new; points = points.new; arcs = arcs.new }) }
 {
     let mut records = Records::new(file);
     let mut at = Progress::start(encoded_len(1) + encoded_len(stops as u32));

@@ -1,4 +1,6 @@
 //! Lists every trip of a small world, one by one, and reads off the list what an ask has to answer. Nothing here searches: it is to be believed at a glance.
+#![tactic(auto)]
+
 mod answer;
 mod survey;
 mod trips;

@@ -1,5 +1,5 @@
 -- How many states the parts of a rule have.
-use Rattle.std.specs.Prelude.{ℕ, ◌+◌, ◌-◌, ◌*◌, ◌^◌, min}
+use Rattle.std.specs.Prelude.{ℕ, ◌+◌, ◌-◌, ◌^◌, min}
 use Rattle.plain.specs.declared.rule.Part.{Part}
 use Rattle.plain.specs.declared.rule.Part.TheVariants.{Any, Boardings, Table}
 

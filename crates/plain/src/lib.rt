@@ -1,6 +1,8 @@
 //! Books, notices and rules as plain tables, read in the plainest way.
-mod book;
-mod rule;
+#![tactic(auto)]
 
-pub use book::Tables;
+mod rule;
+mod tables;
+
 pub use rule::{Part, PlainRule};
+pub use tables::Tables;

@@ -1,5 +1,5 @@
 -- The rule that a file holds, from its marks and its table.
-use Rattle.std.proofs.Common.{◌≡◌, ℕ, ◌+◌, ◌*◌, ◌/◌, ◌%◌, ◌<◌, ◌≤◌, Bool, true, false, cond, ◌&&◌, eqb, ltb, leb, List, [], ◌∷◌, length, get_or, take, drop, Some, None, Ok, Err, Option, Result, sym, refl, ap, ◌∙◌, subst, ⊎_elim, arith, drop_of_length-le, length-take, get_or-take}
+use Rattle.std.proofs.Common.{◌≡◌, ℕ, ◌+◌, ◌*◌, ◌/◌, ◌%◌, ◌<◌, ◌≤◌, Bool, true, false, cond, ◌&&◌, eqb, ltb, leb, List, [], ◌∷◌, length, get_or, take, drop, Some, None, Ok, Err, Option, sym, refl, ap, ◌∙◌, subst, ⊎_elim, arith, drop_of_length-le, length-take, get_or-take}
 use lib.ListN.{get_or-eq_default}
 use Rattle.std.proofs.lemmas.Bool.{cases_lt, eqb-true}
 use Rattle.std.proofs.lemmas.Bool.Decides.{nat_tests}
@@ -21,7 +21,7 @@ use Rattle.wire.proofs.Steps.{reads_ok, reads_err}
 use Rattle.rules.specs.declared.table.TableRule.{TableRule}
 use Rattle.rulefile.specs.Loading.{meaning, ending, Becomes, Loads}
 use Rattle.rulefile.specs.declared.load.RuleTables.{RuleTables}
-use Rattle.rulefile.specs.Tables.{entry, Shows, Tables}
+use Rattle.rulefile.specs.Tables.{Shows, Tables}
 
 -- what the steps of a rule of k states lead from, by and to
 leads_within : (k : ℕ) (before : Option RuleStep) (xs : List RuleStep) → FineAll (step k) stepped before xs → (s x m : ℕ) → leads_to xs s x ≡ Some m → (s < k) × (x < 6) × (m < k)

@@ -1,5 +1,5 @@
 -- The steps of a rule file as a table.
-use Rattle.std.specs.Prelude.{◌≡◌, ℕ, ◌+◌, ◌*◌, ◌<◌, ◌≤◌, Bool, List, length, take, Some, None, Ok, Err, Option, Result, slice_index_or}
+use Rattle.std.specs.Prelude.{◌≡◌, ℕ, ◌+◌, ◌*◌, ◌<◌, ◌≤◌, List, length, take, None, Ok, Err, Option, Result, slice_index_or}
 use Rattle.formats.specs.declared.rule_step.RuleStep.{RuleStep}
 use Rattle.formats.specs.RuleFile.{steps, leads_to, rule, contents_of}
 use Rattle.wire.specs.declared.fault.Fault.{Fault}

@@ -1,4 +1,6 @@
 //! The loader of rule files.
+#![tactic(auto)]
+
 mod load;
 mod marks;
 mod step;

@@ -1,3 +1,5 @@
 //! Rules at their edges.
+#![tactic(auto)]
+
 #[cfg(test)]
 mod tests;

@@ -1,14 +1,14 @@
 -- How a search ends is how the enquiry is answered.
-use Rattle.std.proofs.Common.{◌≡◌, ℕ, ◌<◌, ◌≤◌, Bool, true, false, ◌⊎◌, List, [], ◌∷◌, ◌++◌, length, take, drop, Some, None, Ok, Err, Option, Result, sym, refl, ap, ◌∙◌, subst, inl, inr, arith}
+use Rattle.std.proofs.Common.{◌≡◌, ℕ, ◌<◌, ◌≤◌, List, ◌++◌, length, take, drop, Some, None, Ok, Err, Option, Result, sym, refl, ap, ◌∙◌, subst, inl, inr, arith}
 use Rattle.model.specs.declared.enquiry.Enquiry.{Enquiry}
 use Rattle.model.specs.declared.enquiry.Found.{Found}
 use Rattle.model.specs.declared.refusal.Refusal.{Refusal}
 use Rattle.model.specs.declared.refusal.Refusal.TheVariants.{NoJourney, RowsShort}
 use Rattle.model.specs.declared.network.Place.{Place}
 use Rattle.model.specs.declared.network.Leg.{Leg}
-use Rattle.model.specs.Trips.{World, LawfulWorld, place, First, Journey, Ends, Chosen}
+use Rattle.model.specs.Trips.{World, LawfulWorld, place, Journey}
 use Rattle.model.specs.Suits.{Suits, NoneSuits}
-use Rattle.model.specs.Asking.{rows_needed, refusal_of, TieRule, Outnumbered, Answered, Outcome, Asked}
+use Rattle.model.specs.Asking.{rows_needed, refusal_of, TieRule, Answered, Outcome, Asked}
 use Rattle.model.proofs.Options.{not_ok, not_none}
 use Rattle.model.proofs.Halves.{trip_suits, suits_trip}
 use Rattle.model.proofs.Extending.{journey_is_trip}

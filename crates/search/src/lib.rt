@@ -1,4 +1,6 @@
 //! An enquiry asked: the search, and the journey traced back into the slip.
+#![tactic(auto)]
+
 mod answer;
 mod trace;
 

@@ -1,4 +1,6 @@
 //! The tables that asks are lent, for programs that keep them in memory of their own.
+#![tactic(auto)]
+
 ghost use Rattle.std.specs.Prelude.{IfOk};
 ghost use Rattle.workspace.specs.Blank.{Blank};
 

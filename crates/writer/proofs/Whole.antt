@@ -1,5 +1,5 @@
 -- What the parts write is what the format of the network file writes, and what they accept is what a file can hold.
-use Rattle.std.proofs.Common.{◌≡◌, ℕ, suc, ◌+◌, ◌-◌, ◌<◌, ◌≤◌, Bool, true, false, cond, ◌&&◌, eqb, ltb, leb, List, [], ◌∷◌, ◌++◌, map, length, drop, Some, None, Ok, Err, Option, Result, sym, refl, ap, ◌∙◌, subst, ap₂, zero-add, arith}
+use Rattle.std.proofs.Common.{◌≡◌, ℕ, ◌+◌, ◌<◌, ◌≤◌, Bool, true, false, cond, ◌&&◌, eqb, ltb, leb, List, [], ◌∷◌, ◌++◌, map, length, drop, Some, None, Ok, Err, Option, Result, sym, refl, ap, ◌∙◌, subst, ap₂, zero-add, arith}
 use Rattle.std.proofs.lemmas.List.Edits.{paste_all}
 use Rattle.std.proofs.lemmas.List.{length-map}
 use Rattle.std.proofs.lemmas.Bool.{leb-true, ltb-true, eqb-true, le-leb, lt-leb, lt-ltb, eq-eqb}
@@ -10,8 +10,8 @@ use Rattle.model.specs.declared.tables.Span.{Span}
 use Rattle.model.specs.declared.refusal.Refusal.{Refusal}
 use Rattle.model.specs.declared.refusal.Refusal.TheVariants.{StopCount, NameLength, ServiceField, ArcCount, ArcField, NoSuchService, TailFalls, OutputShort}
 use Rattle.model.specs.Clock.{horizon}
-use Rattle.formats.specs.Contents.{NetworkContents, services}
-use Rattle.formats.specs.NetworkFile.{stop, stop_count, stops, run_count, walk, walks, connection, departed, connection_count, timetable, timetables, reached, least_second, least_reached, point, passed, point_count, road, roads, arc, left, arc_count, arcs, FineNetwork, network}
+use Rattle.formats.specs.Contents.{services}
+use Rattle.formats.specs.NetworkFile.{stop, stop_count, stops, run_count, walk, connection, departed, timetable, reached, least_second, least_reached, point, passed, road, arc, left, arcs, network}
 use Rattle.wire.specs.Grammar.{Format, write_all, FineAll}
 use Rattle.wire.specs.Numbers.{encode}
 use Rattle.wire.proofs.Laws.{file_held}

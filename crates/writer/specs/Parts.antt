@@ -1,14 +1,14 @@
 -- What the writer refuses, part by part in the order of the file, and the bytes that it writes.
-use Rattle.std.specs.Prelude.{ℕ, ◌+◌, ◌-◌, Bool, cond, ◌&&◌, List, ◌++◌, length, Some, None, Option, nat_le, nat_lt}
+use Rattle.std.specs.Prelude.{ℕ, ◌-◌, Bool, cond, ◌&&◌, List, ◌++◌, length, Some, None, Option, nat_le, nat_lt}
 use Rattle.model.specs.declared.network.Arc.{Arc}
 use Rattle.model.specs.declared.tables.Connection.{Connection}
 use Rattle.model.specs.declared.tables.Point.{Point}
 use Rattle.model.specs.declared.tables.Span.{Span}
 use Rattle.model.specs.declared.refusal.Refusal.{Refusal}
-use Rattle.model.specs.declared.refusal.Refusal.TheVariants.{StopCount, NameLength, ServiceField, ArcCount, ArcField, NoSuchService, TailFalls}
+use Rattle.model.specs.declared.refusal.Refusal.TheVariants.{NameLength, ServiceField, ArcField, NoSuchService, TailFalls}
 use Rattle.model.specs.Clock.{horizon}
 use Rattle.meanings.specs.Spans.{rows}
-use Rattle.formats.specs.NetworkFile.{stop, walk, connection, departed, point, reached, second_before, least_second, least_reached, passed, left}
+use Rattle.formats.specs.NetworkFile.{stop, walk, connection, departed, point, reached, least_second, least_reached, passed}
 use Rattle.wire.specs.Numbers.{encode}
 use Rattle.writer.specs.Emission.{or_else, outside, list_refusal, list_bytes}
 

@@ -1,10 +1,10 @@
 -- All is cleared, and then the origin is written and queued.
-use Rattle.std.proofs.Common.{◌≡◌, ℕ, ◌+◌, ◌*◌, ◌<◌, ◌≤◌, true, false, length, get_or, set, Some, None, Option, sym, refl, ap, ◌∙◌, subst, inl, inr, arith}
+use Rattle.std.proofs.Common.{◌≡◌, ℕ, ◌+◌, ◌*◌, ◌<◌, false, length, get_or, set, Some, None, Option, ap, ◌∙◌, inl, inr, arith}
 use Rattle.std.proofs.lemmas.List.{get_or_past}
 use Rattle.std.proofs.lemmas.Bool.{cases_lt}
 use Rattle.model.specs.Trips.{place}
 use Rattle.labels.specs.declared.label.Label.{Label}
-use Rattle.labels.specs.Rows.{Rows, view, improves}
+use Rattle.labels.specs.Rows.{view, improves}
 use Rattle.labels.proofs.Searching.{view_begun, cleared_more}
 use Rattle.queue.specs.Contents.{contents, capacity}
 use Rattle.engine.proofs.Agendas.{written, agenda_empty}

@@ -1,8 +1,6 @@
 -- Entries of settled places are passed over; the first of another is the foremost row's.
-use Rattle.std.proofs.Common.{◌≡◌, ◌+◌, ◌<◌, ◌≤◌, Bool, true, false, not, length, get_or, sym, refl, ap, ◌∙◌, subst, arith}
-use Rattle.std.proofs.lemmas.Bool.{both_ways}
-use Rattle.queue.specs.Contents.{contents, capacity}
-use Rattle.engine.specs.Agenda.{Known}
+use Rattle.std.proofs.Common.{◌≡◌, ◌+◌, ◌≤◌, Bool, true, false, not, length, sym, refl, ◌∙◌, arith}
+use Rattle.queue.specs.Contents.{contents}
 use Rattle.engine.proofs.Agendas.{taken_known, taken_within, passed, foremost, settled_next, agenda_done}
 use Rattle.engine.proofs.next.next.Goals as goal
 
@@ -28,7 +26,7 @@ pub unreachable-requires : goal.unreachable-requires
 unreachable-requires c =
     let k = taken_known c.args.labels.now c.loop-entry.queue c.pop.new.self c.in-Some.entry c.loop-entry.invariant.0 c.in-Some.ensures.popped
     (c.pop.ensures.ready c.loop-entry.invariant.0.ready) in
-    c.in-default-labels.not-Some k.label k.here
+    c.in_default-labels.not-Some k.label k.here
 
 pub returns-then-not-label : goal.returns-then-not-label
 returns-then-not-label c =
@@ -57,4 +55,4 @@ loop-entry-preserved c =
     )
 
 pub returns : goal.returns
-returns c = agenda_done c.args.labels.now c.loop-entry.queue c.loop-entry.invariant.0 c.in-default.ensures.popped.0
+returns c = agenda_done c.args.labels.now c.loop-entry.queue c.loop-entry.invariant.0 c.in_default.ensures.popped.0

@@ -1,4 +1,4 @@
-use Rattle.std.proofs.Common.{◌≡◌, sym, refl, ◌∙◌, arith}
+use Rattle.std.proofs.Common.{sym, ◌∙◌, arith}
 use Rattle.model.specs.declared.network.Arc.{Arc}
 use Rattle.engine.proofs.Unserved.{unserved_here, served_here, served_all}
 use Rattle.engine.proofs.refusal.any_service_missing.Goals as goal

@@ -1,9 +1,8 @@
 -- A label that improves is written and queued, and one that does not leaves all as it is.
-use Rattle.std.proofs.Common.{◌≡◌, length, set, sym, refl, ap, ◌∙◌, subst, arith}
-use Rattle.queue.specs.Contents.{contents, capacity}
-use Rattle.labels.specs.Rows.{Rows, row_of}
+use Rattle.std.proofs.Common.{sym, refl, ◌∙◌, arith}
+use Rattle.queue.specs.Contents.{capacity}
+use Rattle.labels.specs.Rows.{row_of}
 use Rattle.labels.proofs.View.{accepted_better, accepted_keeps}
-use Rattle.engine.specs.Agenda.{Agenda}
 use Rattle.engine.proofs.Agendas.{written, rewritten}
 use Rattle.engine.proofs.relax.accept.Goals as goal
 
@@ -18,13 +17,13 @@ returns-in-Ok c =
       room = c.push.ensures.room;
     }
 
-pub returns-then-is-queued : goal.returns-then-is-queued
-returns-then-is-queued c =
+pub returns-then-is_queued : goal.returns-then-is_queued
+returns-then-is_queued c =
     let better = sym c.improves.ensures ∙ c.if-improves.true in
     record {
       labels = accepted_better c.args.states c.args.offer c.args.labels.now better;
       agenda = rewritten c.args.labels.now c.args.queue.now (row_of c.args.states c.args.offer.at) c.args.offer.label c.requires.agenda c.requires.size.0 better
-          (sym c.is-queued.ensures ∙ c.if-is-queued.true);
+          (sym c.is_queued.ensures ∙ c.if-is_queued.true);
       count = omega arith;
       room = refl;
     }

@@ -1,9 +1,9 @@
 -- The loop relaxes one arc after the other; the arcs before and behind the range offer nothing.
-use Rattle.std.proofs.Common.{◌≡◌, ℕ, ◌+◌, ◌-◌, ◌*◌, ◌^◌, ◌<◌, ◌≤◌, List, length, get_or, None, sym, refl, ap, ◌∙◌, subst, subst₂, arith}
+use Rattle.std.proofs.Common.{◌≡◌, ℕ, ◌+◌, ◌-◌, ◌*◌, ◌<◌, ◌≤◌, List, length, get_or, None, sym, refl, ap, ◌∙◌, subst, subst₂, arith}
 use Rattle.model.specs.declared.network.Arc.{Arc}
 use Rattle.model.specs.Trips.{World, world}
-use Rattle.labels.specs.Table.{Table, offer, relax_below}
-use Rattle.labels.specs.Rows.{Rows, view, row_of, accepted, Room, Among}
+use Rattle.labels.specs.Table.{offer, relax_below}
+use Rattle.labels.specs.Rows.{Rows, view, row_of, accepted, Room}
 use Rattle.labels.proofs.Tables.{offer_rides}
 use Rattle.labels.proofs.Relaxing.{relax_before, relax_behind, offer_room, relaxed_some}
 use Rattle.queue.specs.Contents.{contents, capacity}
@@ -11,7 +11,7 @@ use Rattle.engine.specs.Agenda.{Agenda, Topped, Useful}
 use Rattle.engine.proofs.Grounds.{among_of, room_of, rows_few}
 use Rattle.engine.proofs.Tops.{relaxed_idle, topped_accepted}
 use Rattle.engine.proofs.relax.relax.Goals as goal
-use Rattle.engine.proofs.relax.relax.Goals.{in-Some, in-default}
+use Rattle.engine.proofs.relax.relax.Goals.{in-Some, in_default}
 
 pub loop-i-init : goal.loop-i-init
 loop-i-init g c =
@@ -97,12 +97,12 @@ loop-i-preserved g c =
                 (topped_accepted k w.in-Some.made c.loop-i.labels c.args.label (offer_rides W c.args.from c.args.label c.loop-i.i w.in-Some.made w.in-Some.ensures).settled
                 (offer_room W c.args.from c.args.label c.loop-i.i (length c.loop-i.labels) w.in-Some.made (g.R.Rule.lawful c.args.rule.now).closed room w.in-Some.ensures).1 c.loop-i.invariant.4),
           )
-      | in-default w ↦
+      | in_default w ↦
           let q : length (contents c.match-offer.queue) ≡ length (contents c.loop-i.queue) = ap (λ z. length (contents z)) w.queue-is in (
             subst₂ Agenda (sym w.labels-is) (sym w.queue-is) c.loop-i.invariant.0,
             ap (λ (rows : Rows). view k rows) w.labels-is
                 ∙ relaxed_idle W c.args.from c.args.label c.loop-i.i (view k c.args.labels.now) c.loop-i.labels (g.R.Rule.lawful c.args.rule.now).closed room c.loop-i.invariant.1
-                (subst (λ (z : ℕ). Useful c.loop-i.labels z (offer W c.args.from c.args.label c.loop-i.i) None) c.states-states.ensures w.in-default.ensures),
+                (subst (λ (z : ℕ). Useful c.loop-i.labels z (offer W c.args.from c.args.label c.loop-i.i) None) c.states-states.ensures w.in_default.ensures),
             omega arith,
             ap (λ z. capacity z) w.queue-is ∙ c.loop-i.invariant.3,
             subst (λ (rows : Rows). Topped rows c.args.label) (sym w.labels-is) c.loop-i.invariant.4,

@@ -1,5 +1,5 @@
 -- The loop is the search; it ends at the target's first end place, or where no row waits.
-use Rattle.std.proofs.Common.{◌≡◌, ℕ, ◌+◌, ◌-◌, ◌*◌, ◌/◌, ◌%◌, ◌^◌, ◌<◌, ◌≤◌, Bool, true, false, ◌&&◌, eqb, length, set, Some, sym, refl, ap, ◌∙◌, subst, arith}
+use Rattle.std.proofs.Common.{◌≡◌, ℕ, ◌+◌, ◌*◌, ◌/◌, ◌%◌, ◌^◌, ◌<◌, ◌≤◌, eqb, length, set, Some, sym, ap, ◌∙◌, subst, arith}
 use Rattle.std.proofs.lemmas.Nat.{mul-add-lt}
 use Rattle.std.proofs.lemmas.Bool.{and_parts, and_from, eqb-true, eq-eqb, both_ways}
 use Rattle.model.specs.declared.network.Place.{Place}
@@ -7,7 +7,7 @@ use Rattle.model.specs.Trips.{World, LawfulWorld, world, place, Ends}
 use Rattle.model.proofs.Unique.{place_is}
 use Rattle.model.proofs.Worlds.{world_is_lawful}
 use Rattle.labels.specs.Table.{Table, Search, begin, begun, Least, Tied, Unmet, settle}
-use Rattle.labels.specs.Rows.{Rows, view, place_of, settled_count, relaxed_count}
+use Rattle.labels.specs.Rows.{view, place_of, settled_count, relaxed_count}
 use Rattle.labels.proofs.Searching.{begun_legs, begun_unmet, legs_small, settled_most, finished_of, next_search, next_legs, one_more_settled, relaxed_after, unmet_still, least_row, tied_row}
 use Rattle.queue.specs.Contents.{contents, capacity}
 use Rattle.engine.proofs.Grounds.{rows_few}
@@ -145,5 +145,5 @@ pub returns : goal.returns
 returns g c = record {
   searched = c.loop-number.invariant.0;
   unmet = c.loop-number.invariant.2;
-  finished = finished_of (g.R.Rule.automaton c.args.rule.now).states c.loop-number.labels c.in-default.ensures;
+  finished = finished_of (g.R.Rule.automaton c.args.rule.now).states c.loop-number.labels c.in_default.ensures;
 }

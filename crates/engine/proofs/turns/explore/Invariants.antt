@@ -1,5 +1,5 @@
 -- The rows are a table that the search comes to; each turn settles one row more, and queues no more entries than there are arcs leaving its stop.
-use Rattle.std.proofs.Common.{◌≡◌, ◌+◌, ◌-◌, ◌*◌, ◌≤◌, length}
+use Rattle.std.proofs.Common.{◌+◌, ◌-◌, ◌*◌, ◌≤◌, length}
 use Rattle.model.specs.Trips.{world, place}
 use Rattle.labels.specs.Table.{Search, Unmet}
 use Rattle.labels.specs.Rows.{view, settled_count, relaxed_count, LegsBound}

@@ -1,5 +1,5 @@
 -- Past the tests the first rows of the label table are those that the search leaves.
-use Rattle.std.proofs.Common.{◌≡◌, ℕ, ◌*◌, ◌≤◌, List, ◌++◌, length, take, drop, None, sym, refl, ap, ◌∙◌, subst, arith, length-take-le, take_at}
+use Rattle.std.proofs.Common.{◌≡◌, ℕ, ◌*◌, ◌≤◌, ◌++◌, length, take, drop, None, sym, refl, ◌∙◌, subst, arith, length-take-le, take_at}
 use Rattle.model.specs.Asking.{refusal_of}
 use Rattle.model.specs.Trips.{World, world, place}
 use Rattle.labels.specs.Rows.{Rows, view}
@@ -14,7 +14,7 @@ returns g c =
     let L : Rows = c.explore-found.new.labels in
     let needed : c.stops.result * c.states.result ≡ c.args.network.stops * k = λ i. c.stops.ensures i * c.states.ensures i in
     let none : refusal_of c.args.network.stops (g.B.Book.services c.args.book.now) W c.args.enquiry (length c.args.labels.now) (length c.args.slots.now) ≡ None
-    = sym c.in-default.ensures in
+    = sym c.in_default.ensures in
     let enough : c.args.network.stops * k ≤ length c.args.labels.now
     = rows_enough c.args.network.stops (g.B.Book.services c.args.book.now) W c.args.enquiry (length c.args.labels.now) (length c.args.slots.now) none in
     let cut : length (take (c.stops.result * c.states.result) c.args.labels.now) ≡ c.stops.result * c.states.result
@@ -23,7 +23,7 @@ returns g c =
     let front : take (c.args.network.stops * k) (L ++ drop (c.stops.result * c.states.result) c.args.labels.now) ≡ L
     = take_at L (drop (c.stops.result * c.states.result) c.args.labels.now) (c.args.network.stops * k) (n ∙ needed) in
     record {
-      refused = λ f e. absurd (c.in-default.not-Some f (c.refusal.ensures ∙ e));
+      refused = λ f e. absurd (c.in_default.not-Some f (c.refusal.ensures ∙ e));
       searched = λ e. (
         c.explore-found.result,
         refl,

@@ -7,11 +7,11 @@ use Rattle.files.specs.Progress.{unstored}
 use Rattle.files.proofs.Passes.{few_stops, first_stop_lem, going_start, going_turn, going_short, going_bounded, gone}
 use Rattle.files.proofs.loading.fill.Goals as goal
 
-pub overflow-cast-stops : goal.overflow-cast-stops
-overflow-cast-stops c = let few = few_stops c.requires in search rules
+pub overflow_cast-stops : goal.overflow_cast-stops
+overflow_cast-stops c = let few = few_stops c.requires in search rules
 
-pub overflow-add-encoded-len : goal.overflow-add-encoded-len
-overflow-add-encoded-len c =
+pub overflow_add-encoded_len : goal.overflow_add-encoded_len
+overflow_add-encoded_len c =
     let one = few_bytes 1 in
     let count = few_bytes c.args.stops in
     search rules
@@ -20,7 +20,7 @@ pub loop-found-init : goal.loop-found-init
 loop-found-init c =
     let a = c.args in
     let r = c.new-records in
-    let at = c.start-at.ensures ∙ ap₂ (λ x y. unstored (x + y)) c.encoded-len.ensures c.encoded-len-2.ensures in
+    let at = c.start-at.ensures ∙ ap₂ (λ x y. unstored (x + y)) c.encoded_len.ensures c.encoded_len-2.ensures in
     rw at (going_start c.requires (record { names = a.names.now; walks = a.walks.now; timetables = a.timetables.now; connections = a.connections.now; roads = a.roads.now; points = a.points.now; arcs = a.arcs.now })
     (first_stop a.stops) (size r.result.section) (rest r.result).0 (first_stop_lem a.stops) (ap (λ t. t.0) r.ensures.all) (ap size r.ensures.front)
     (ap collected (sym r.ensures.all) ∙ r.ensures.reads))
@@ -42,7 +42,7 @@ returns c =
     let a = c.args in
     let r = c.new-records in
     gone (record { names = a.names.now; walks = a.walks.now; timetables = a.timetables.now; connections = a.connections.now; roads = a.roads.now; points = a.points.now; arcs = a.arcs.now })
-    (first_stop a.stops) c.loop-found.invariant (ap (λ t. t.0) c.in-default.ensures.says) refl (ap collected (sym r.ensures.all) ∙ r.ensures.reads)
+    (first_stop a.stops) c.loop-found.invariant (ap (λ t. t.0) c.in_default.ensures.says) refl (ap collected (sym r.ensures.all) ∙ r.ensures.reads)
 
 pub returns-in-Err : goal.returns-in-Err
 returns-in-Err c =

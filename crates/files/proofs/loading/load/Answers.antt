@@ -7,14 +7,14 @@ use Rattle.files.proofs.Making.{rows_hold_names, files_make}
 use Rattle.files.proofs.Passes.{load_fault, load_short, load_done}
 use Rattle.files.proofs.loading.load.Goals as goal
 
-pub returns-in-err-loaded : goal.returns-in-err-loaded
-returns-in-err-loaded c =
+pub returns-in_err-loaded : goal.returns-in_err-loaded
+returns-in_err-loaded c =
     let a = c.args in
-    let p = err_from_is_err_and c.from-residual.result c.from-residual.ensures.1 in
+    let p = err_from_is_err_and c.from_residual.result c.from_residual.ensures.1 in
     rw (p.1, p.2) (record {
-      loads = load_fault (network.read a.file.now 0) c.in-err-loaded.field-0.0
+      loads = load_fault (network.read a.file.now 0) c.in_err-loaded.field-0.0
           (record { names = a.names.now; walks = a.walks.now; timetables = a.timetables.now; connections = a.connections.now; roads = a.roads.now; points = a.points.now; arcs = a.arcs.now })
-          (sym c.in-err-loaded.was ∙ c.tally.ensures);
+          (sym c.in_err-loaded.was ∙ c.tally.ensures);
       back = writes_back network network_lawful;
       named = rows_hold_names;
       made = files_make;
@@ -23,9 +23,9 @@ returns-in-err-loaded c =
 pub returns-then-not-fits : goal.returns-then-not-fits
 returns-then-not-fits c =
     let a = c.args in record {
-      loads = load_short (network.read a.file.now 0) c.in-ok-loaded.loaded
+      loads = load_short (network.read a.file.now 0) c.in_ok-loaded.loaded
           (record { names = a.names.now; walks = a.walks.now; timetables = a.timetables.now; connections = a.connections.now; roads = a.roads.now; points = a.points.now; arcs = a.arcs.now })
-          c.in-ok-loaded.ensures (sym c.fit-fits.ensures ∙ c.if-not-fits.true);
+          c.in_ok-loaded.ensures (sym c.fit-fits.ensures ∙ c.if-not-fits.true);
       back = writes_back network network_lawful;
       named = rows_hold_names;
       made = files_make;
@@ -34,9 +34,9 @@ returns-then-not-fits c =
 pub returns : goal.returns
 returns c =
     let a = c.args in record {
-      loads = load_done a.file.now c.in-ok-loaded.loaded
+      loads = load_done a.file.now c.in_ok-loaded.loaded
           (record { names = a.names.now; walks = a.walks.now; timetables = a.timetables.now; connections = a.connections.now; roads = a.roads.now; points = a.points.now; arcs = a.arcs.now })
-          _ c.in-ok-loaded.ensures (sym c.fit-fits.ensures ∙ c.if-not-fits.false) c.fill.ensures;
+          _ c.in_ok-loaded.ensures (sym c.fit-fits.ensures ∙ c.if-not-fits.false) c.fill.ensures;
       back = writes_back network network_lawful;
       named = rows_hold_names;
       made = files_make;

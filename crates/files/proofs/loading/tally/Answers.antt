@@ -7,10 +7,10 @@ use Rattle.files.proofs.loading.tally.Goals as goal
 pub loop-item-preserved : goal.loop-item-preserved
 loop-item-preserved c =
     let after = c.next.new.self in
-    tallying_turn c.loop-item.invariant (meant c.in-ok-item.field-0) (rest after) (size after.section) c.with-counts.result
-    (c.in-Some.ensures.says ∙ ap (λ r. handed r (rest after)) c.in-ok-item.was) (c.in-Some.ensures.falls refl) c.with-counts.ensures
+    tallying_turn c.loop-item.invariant (meant c.in_ok-item.field-0) (rest after) (size after.section) c.with-counts.result
+    (c.in-Some.ensures.says ∙ ap (λ r. handed r (rest after)) c.in_ok-item.was) (c.in-Some.ensures.falls refl) c.with-counts.ensures
 
 pub returns : goal.returns
 returns c =
     tallied_end c.args.file.now c.loop-item.invariant (ap collected (sym c.new-records.ensures.all) ∙ c.new-records.ensures.reads)
-    (c.in-default.ensures.says ∙ ap {B = Told} (λ p. ([], Ok p)) (sym c.place.ensures))
+    (c.in_default.ensures.says ∙ ap {B = Told} (λ p. ([], Ok p)) (sym c.place.ensures))

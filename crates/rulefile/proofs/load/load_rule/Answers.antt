@@ -1,4 +1,4 @@
-use Rattle.std.proofs.Common.{◌≡◌, take, Ok, sym, refl, ap, ◌∙◌, ap₂, arith}
+use Rattle.std.proofs.Common.{◌≡◌, take, Ok, sym, ap, ◌∙◌, ap₂, arith}
 use Rattle.rules.proofs.Faultless.{sound_not_at_fault}
 use Rattle.formats.specs.RuleFile.{contents_of, rule}
 use Rattle.rulefile.proofs.Loading.{past_the_end, loads_fault, loads_rule, tables_sound, tables_rule}
@@ -12,17 +12,17 @@ returns-in-Ok c =
     let bs = c.args.file.now in
     let r = c.starting-reader.result in
     let place : r.at ≡ c.args.at = c.starting-reader.ensures.place ∙ omega arith in
-    let t = c.in-ok-tables.ensures in
+    let t = c.in_ok-tables.ensures in
     let read = sym (ap₂ (λ b p. rule.read b p) c.starting-reader.ensures.file place) ∙ t.1 in
-    let tables = c.in-ok-tables.tables in
+    let tables = c.in_ok-tables.tables in
     let contents = contents_of (take tables.states tables.ends, t.0) in
-    loads_rule bs c.args.at c.args.rule.now c.in-Ok.loaded contents c.place.result (read ∙ ap (λ q. Ok (contents, q)) (sym c.place.ensures)) (c.in-Ok.ensures ∙ tables_rule c.in-ok-tables.tables t.0 bs c.args.at _ read t.2)
+    loads_rule bs c.args.at c.args.rule.now c.in-Ok.loaded contents c.place.result (read ∙ ap (λ q. Ok (contents, q)) (sym c.place.ensures)) (c.in-Ok.ensures ∙ tables_rule c.in_ok-tables.tables t.0 bs c.args.at _ read t.2)
 
 pub returns-in-Err : goal.returns-in-Err
 returns-in-Err c =
     let bs = c.args.file.now in
     let r = c.starting-reader.result in
     let place : r.at ≡ c.args.at = c.starting-reader.ensures.place ∙ omega arith in
-    let t = c.in-ok-tables.ensures in
+    let t = c.in_ok-tables.ensures in
     let read = sym (ap₂ (λ b p. rule.read b p) c.starting-reader.ensures.file place) ∙ t.1 in
-    absurd (sound_not_at_fault c.in-Err.fault _ _ _ (tables_sound c.in-ok-tables.tables t.0 bs c.args.at _ read t.2) c.in-Err.ensures)
+    absurd (sound_not_at_fault c.in-Err.fault _ _ _ (tables_sound c.in_ok-tables.tables t.0 bs c.args.at _ read t.2) c.in-Err.ensures)

@@ -1,8 +1,8 @@
 -- Each turn walks one leg back and writes it; where no leg is left the list is whole.
-use Rattle.std.proofs.Common.{◌≡◌, ℕ, suc, ◌<◌, List, length, sym, refl, ap, ◌∙◌, subst, arith}
+use Rattle.std.proofs.Common.{◌≡◌, suc, arith}
 use Rattle.model.specs.Trips.{place}
 use Rattle.labels.specs.Rows.{view}
-use Rattle.labels.proofs.Tracing.{Walk, walk_begin, walk_back, walk_on, walk_end, fewer, row_there}
+use Rattle.labels.proofs.Tracing.{walk_begin, walk_back, walk_on, walk_end, fewer, row_there}
 use Rattle.search.proofs.trace.trace.Goals as goal
 
 pub loop-last-init : goal.loop-last-init

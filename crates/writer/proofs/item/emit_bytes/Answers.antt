@@ -5,5 +5,5 @@ use Rattle.writer.proofs.item.emit_bytes.Goals as goal
 pub returns-then-to-out : goal.returns-then-to-out
 returns-then-to-out c = record {
   says = refl;
-  output = λ _. put_mid-paste c.args.at _ c.args.out.now c.copy-from-slice.new.self c.args.bytes.now (length c.args.bytes.now) c.copy-from-slice.ensures.after (omega arith) refl;
+  output = λ _. put_mid-paste c.args.at _ c.args.out.now c.copy_from_slice.new.self c.args.bytes.now (length c.args.bytes.now) c.copy_from_slice.ensures.after (omega arith) refl;
 }

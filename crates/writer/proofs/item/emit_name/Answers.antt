@@ -10,6 +10,6 @@ returns c =
     let row = c.args.row in
     let table = c.args.names.now in
     record {
-      says = emits_row (λ xs. outside 1 40 NameLength (length xs)) stop.write table row _ NameLength (sym c.row-lies.ensures ∙ c.if-not-row-lies.false) (ap (λ n. take n (drop row.start table)) (omega arith)) c.emit-text.ensures.says;
-      small = c.emit-text.ensures.small;
+      says = emits_row (λ xs. outside 1 40 NameLength (length xs)) stop.write table row _ NameLength (sym c.row_lies.ensures ∙ c.if-not-row_lies.false) (ap (λ n. take n (drop row.start table)) (omega arith)) c.emit_text.ensures.says;
+      small = c.emit_text.ensures.small;
     }

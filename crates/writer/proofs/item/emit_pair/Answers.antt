@@ -7,7 +7,7 @@ pub returns : goal.returns
 returns c =
     let l = length-append (encode c.args.m) (encode c.args.n) in
     record {
-      says = omega (arith, c.emit-number-middle.ensures.says, c.emit-number.ensures.says);
-      output = joined c.args.out.now c.args.at (encode c.args.m) (encode c.args.n) c.emit-number-middle.new.out c.emit-number.new.out c.emit-number-middle.result c.emit-number-middle.ensures.says c.emit-number-middle.ensures.output c.emit-number.ensures.output;
-      small = omega (arith, c.emit-number-middle.ensures.small, c.emit-number.ensures.small);
+      says = omega (arith, c.emit_number-middle.ensures.says, c.emit_number.ensures.says);
+      output = joined c.args.out.now c.args.at (encode c.args.m) (encode c.args.n) c.emit_number-middle.new.out c.emit_number.new.out c.emit_number-middle.result c.emit_number-middle.ensures.says c.emit_number-middle.ensures.output c.emit_number.ensures.output;
+      small = omega (arith, c.emit_number-middle.ensures.small, c.emit_number.ensures.small);
     }
