@@ -1,9 +1,6 @@
 -- The worked examples, from the definitions that the contracts use: answers of a timetable, a road and a walk, of a walk under a
 -- notice, states of pairs, numbers in a file, and two journeys that the tie rule picks.
-use Rattle.std.specs.Prelude.{◌≡◌, ℕ, List, [], ◌∷◌, Some, Option}
-use Rattle.model.specs.declared.tables.Connection.{Connection}
-use Rattle.model.specs.declared.tables.Span.{Span}
-use Rattle.model.specs.declared.network.Leg.{Leg}
+use Rattle.std.specs.Prelude.{◌≡◌, ℕ, [], ◌∷◌, Some, Option}
 use Rattle.model.specs.Trips.{world, place, Answer}
 use Rattle.model.specs.Journeys.{any_word, straight_or_round, to_the_pier}
 use Rattle.meanings.specs.Answers.{joined}

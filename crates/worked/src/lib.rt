@@ -1,4 +1,6 @@
 //! The worked examples, as one assertion over the definitions that the contracts use.
+#![tactic(auto)]
+
 ghost use Rattle.std.specs.Prelude.{◌≡◌};
 ghost use Rattle.worked.specs.Worked.{WorkedExamples};
 
