@@ -1,3 +1,5 @@
 //! The books at their edges.
+#![tactic(auto)]
+
 #[cfg(test)]
 mod tests;
