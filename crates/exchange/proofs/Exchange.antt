@@ -1,12 +1,11 @@
 -- The rows of a loaded file name what the file holds.
-use Rattle.std.proofs.Common.{◌≡◌, ℕ, ◌+◌, ◌-◌, ◌≤◌, Bool, true, ◌&&◌, leb, List, [], ◌∷◌, ◌++◌, map, length, take, drop, Ok, sym, refl, ap, ◌∙◌, subst, ap₂, append_assoc, append-nil, arith, length-append, length-drop, length-take, take_at}
+use Rattle.std.proofs.Common.{◌≡◌, ℕ, ◌+◌, ◌-◌, ◌≤◌, Bool, true, ◌&&◌, List, [], ◌∷◌, ◌++◌, map, length, take, drop, Ok, sym, refl, ap, ◌∙◌, ap₂, append_assoc, append-nil, arith, length-append, length-drop, length-take, take_at}
 use lib.Seq.{drop-append_seam}
 use Rattle.std.proofs.lemmas.Bool.{le-leb}
 use Rattle.model.specs.declared.tables.Span.{Span}
 use Rattle.wire.specs.Grammar.{FineAll}
 use Rattle.wire.specs.Numbers.{encode}
-use Rattle.formats.specs.Contents.{NetworkContents}
-use Rattle.formats.specs.NetworkFile.{stop, network}
+use Rattle.formats.specs.NetworkFile.{stop}
 use Rattle.formats.proofs.NetworkFile.{network_lawful}
 use Rattle.files.specs.Loading.{joined, list_rows, name_rows, first_stop}
 use Rattle.files.proofs.Filling.{length_name_rows}

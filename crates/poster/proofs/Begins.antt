@@ -1,6 +1,5 @@
 -- The queue at its start, arc by arc.
-use Rattle.std.proofs.Common.{◌≡◌, ℕ, ◌+◌, ◌-◌, ◌<◌, ◌≤◌, Bool, true, false, cond, eqb, List, [], ◌∷◌, length, get_or, Some, None, sum_by, Option, sym, refl, ap, ◌∙◌, subst, inl, inr, ⊎_elim, arith}
-use Rattle.std.specs.List.{ContainsAt as Has, AllByRecursion}
+use Rattle.std.proofs.Common.{◌≡◌, ℕ, ◌+◌, ◌-◌, ◌<◌, ◌≤◌, Bool, true, false, cond, eqb, List, [], ◌∷◌, length, get_or, Some, None, sum_by, Option, sym, refl, ap, subst, ⊎_elim, arith}
 use Rattle.std.specs.List.Sorted.{IsPermutation}
 use Rattle.std.proofs.ByRecursion.{All-weaker, all_shuffled, has_shuffled}
 use Rattle.std.proofs.lemmas.List.Sorted.{sum_by-IsPermutation}
@@ -9,7 +8,7 @@ use Rattle.std.proofs.lemmas.Bool.{ne_eqb, cases_lt, cases_eq}
 use Rattle.meanings.specs.Timetables.{caught, no_connection, Rising}
 use Rattle.poster.specs.declared.departure.Departure.{Departure}
 use Rattle.poster.specs.Boards.{Listing}
-use Rattle.poster.specs.Merging.{departure_at, At, Added, line, left, on, DueOn, Ahead, Begun}
+use Rattle.poster.specs.Merging.{departure_at, At, Added, line, left, on, DueOn, Begun}
 use Rattle.poster.specs.Orders.{has_front, has_behind}
 use Rattle.poster.proofs.Lines.{caught_few, first_in_time, in_time_from}
 use Rattle.poster.proofs.Merges.{on_none}

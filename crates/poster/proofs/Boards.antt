@@ -1,16 +1,14 @@
 -- The merge of the arcs that leave a stop is the stop's board.
-use Rattle.std.proofs.Common.{◌≡◌, ℕ, ◌+◌, ◌-◌, ◌<◌, ◌≤◌, List, [], length, get_or, sym, refl, ap, ◌∙◌, subst, ⊎_elim, arith}
-use Rattle.std.specs.List.{ContainsAt as Has, AllByRecursion}
+use Rattle.std.proofs.Common.{◌≡◌, ℕ, ◌<◌, ◌≤◌, List, length, get_or, sym, ap, subst, ⊎_elim, arith}
 use Rattle.std.proofs.ByRecursion.{all-has, All-weaker}
 use Rattle.std.proofs.lemmas.Bool.{cases_lt}
-use Rattle.model.specs.declared.network.Arc.{Arc}
 use Rattle.model.specs.declared.tables.Connection.{Connection}
 use Rattle.meanings.specs.Timetables.{no_connection}
 use Rattle.network.specs.declared.fault.ArcRange.{ArcRange}
 use Rattle.network.specs.Sound.{Leaving}
 use Rattle.books.proofs.Departing.{no_rows}
 use Rattle.poster.specs.declared.departure.Departure.{Departure}
-use Rattle.poster.specs.Boards.{Listing, no_arc, arc_of, service_of, service_list, connection_of, row_of, Due, Board, BoardsAreOne}
+use Rattle.poster.specs.Boards.{Listing, no_arc, arc_of, service_of, service_list, row_of, Due, Board, BoardsAreOne}
 use Rattle.poster.specs.Merging.{Leaves, line, DueOn, Begun, AllListed}
 use Rattle.poster.specs.Orders.{ascending_one}
 use Rattle.poster.proofs.Lines.{of_ours, of_another}

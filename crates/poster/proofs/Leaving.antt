@@ -1,5 +1,5 @@
 -- How many arcs leave a stop.
-use Rattle.std.proofs.Common.{◌≡◌, ℕ, zero, suc, ◌+◌, ◌-◌, ◌<◌, ◌≤◌, min, Bool, true, false, cond, eqb, ltb, leb, List, length, get_or, take, Some, None, filter, Option, sym, refl, ap, ⊎_elim, add-one, arith, take_all}
+use Rattle.std.proofs.Common.{◌≡◌, ℕ, zero, suc, ◌+◌, ◌-◌, ◌≤◌, min, Bool, true, false, cond, eqb, ltb, leb, List, length, get_or, take, Some, None, filter, Option, sym, refl, ap, ⊎_elim, add-one, arith, take_all}
 use Rattle.std.proofs.lemmas.List.Filters.{length-filter_more}
 use Rattle.std.proofs.lemmas.Bool.{eq-eqb, ne_eqb, ltb-false, cases_lt}
 use Rattle.model.specs.Clock.{horizon}

@@ -1,5 +1,5 @@
 -- One step of a merge, and what the whole of it lists.
-use Rattle.std.proofs.Common.{◌≡◌, ℕ, zero, suc, ◌+◌, ◌-◌, ◌<◌, ◌≤◌, Bool, true, false, cond, eqb, ◌⊎◌, List, [], ◌∷◌, ◌++◌, map, length, get_or, drop, set, sum_by, sym, refl, ap, ◌∙◌, subst, inl, inr, ⊎_elim, arith, length-append}
+use Rattle.std.proofs.Common.{◌≡◌, ℕ, zero, suc, ◌+◌, ◌-◌, ◌<◌, ◌≤◌, true, false, cond, ◌⊎◌, List, [], ◌∷◌, ◌++◌, map, length, get_or, drop, set, sum_by, sym, refl, ap, ◌∙◌, subst, inl, inr, ⊎_elim, arith, length-append}
 use Rattle.std.specs.List.{ContainsAt as Has, AllByRecursion}
 use Rattle.std.specs.List.Sorted.{IsPermutation}
 use Rattle.std.proofs.ByRecursion.{All-push, All-weaker, has_append_left, has_push, all_shuffled, has_shuffled}
@@ -9,9 +9,9 @@ use Rattle.std.proofs.lemmas.Bool.{eq-eqb, ne_eqb, cases_lt, cases_eq}
 use Rattle.meanings.specs.Timetables.{no_connection, Rising}
 use Rattle.poster.specs.declared.departure.Departure.{Departure}
 use Rattle.poster.specs.declared.departure.PosterRow.{PosterRow}
-use Rattle.poster.specs.Before.{departure_before, Ascending}
+use Rattle.poster.specs.Before.{departure_before}
 use Rattle.poster.specs.Boards.{Listing}
-use Rattle.poster.specs.Merging.{departure_at, line, left, on, DueOn, Ahead, Begun, Listed, AllListed}
+use Rattle.poster.specs.Merging.{departure_at, line, left, on, DueOn, Begun, Listed, AllListed}
 use Rattle.poster.specs.Orders.{order, lex_next, lex_other, has_cases, has_front, has_behind, all_both, ascending_push, LeastFirst, least_first}
 
 -- ---- how many of a list are on an arc

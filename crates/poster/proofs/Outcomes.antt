@@ -6,7 +6,7 @@ use Rattle.model.proofs.Options.{not_none, not_ok, some_is}
 use Rattle.poster.specs.declared.departure.Departure.{Departure}
 use Rattle.poster.specs.declared.departure.PosterRow.{PosterRow}
 use Rattle.poster.specs.Boards.{Listing, Board, row_of}
-use Rattle.poster.specs.Posted.{refusal_of, Filled, Outcome, Posted}
+use Rattle.poster.specs.Posted.{refusal_of, Outcome, Posted}
 
 same_refusal : (f g : Refusal) → ◌≡◌ {A = Result ℕ Refusal} (Err f) (Err g) → g ≡ f
 same_refusal f g e = cc

@@ -1,5 +1,5 @@
 -- The board of a stop: the connections of a timetable book that depart from it at or after a second.
-use Rattle.std.specs.Prelude.{◌≡◌, ℕ, ◌+◌, ◌-◌, ◌<◌, ◌≤◌, ◌↔◌, List, length, slice_index_or}
+use Rattle.std.specs.Prelude.{◌≡◌, ℕ, ◌-◌, ◌<◌, ◌≤◌, ◌↔◌, List, length, slice_index_or}
 use Rattle.std.specs.List.{ContainsAt as Has}
 use Rattle.model.specs.declared.network.Arc.{Arc}
 use Rattle.model.specs.declared.tables.Connection.{Connection}

@@ -1,11 +1,11 @@
 -- The merge of the lists of the arcs that leave a stop: what the queue holds while it runs.
-use Rattle.std.specs.Prelude.{◌≡◌, ℕ, ◌+◌, ◌-◌, ◌<◌, ◌≤◌, Bool, true, cond, ◌⊎◌, List, [], ◌∷◌, ◌++◌, map, length, drop, Some, None, sum_by, Option, ◌==◌, nat_le, slice_index_or}
+use Rattle.std.specs.Prelude.{◌≡◌, ℕ, ◌+◌, ◌-◌, ◌<◌, ◌≤◌, true, cond, ◌⊎◌, List, [], ◌∷◌, ◌++◌, map, length, drop, Some, None, sum_by, Option, ◌==◌, nat_le, slice_index_or}
 use Rattle.std.specs.List.{ContainsAt as Has, AllByRecursion}
 use Rattle.std.specs.List.Sorted.{IsPermutation}
 use Rattle.model.specs.declared.tables.Connection.{Connection}
 use Rattle.model.specs.declared.tables.Span.{Span}
 use Rattle.meanings.specs.Spans.{service_rows}
-use Rattle.meanings.specs.Timetables.{no_connection, Rising}
+use Rattle.meanings.specs.Timetables.{no_connection}
 use Rattle.poster.specs.declared.departure.Departure.{Departure}
 use Rattle.poster.specs.declared.departure.PosterRow.{PosterRow}
 use Rattle.poster.specs.Before.{departure_before, Ascending}

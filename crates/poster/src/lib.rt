@@ -1,4 +1,6 @@
 //! Posters: the departures of a timetable book from a stop.
+#![tactic(auto)]
+
 mod departure;
 mod line;
 mod listing;

@@ -21,7 +21,7 @@ returns-in-Some c =
 pub begin-count-requires : goal.begin-count-requires
 begin-count-requires c =
     let enough : leaving_count c.args.network.arcs.now c.args.stop ≤ length c.args.slots.now
-    = slots_enough c.args.network.stops c.args.network.arcs.now c.args.stop c.args.second (length c.args.slots.now) (sym c.in-default.ensures) in
+    = slots_enough c.args.network.stops c.args.network.arcs.now c.args.stop c.args.second (length c.args.slots.now) (sym c.in_default.ensures) in
     record {
       empty = (c.new-queue.ensures.ready, c.new-queue.ensures.empty);
       room = omega (arith, c.new-queue.ensures.room);
@@ -31,10 +31,10 @@ pub returns-then-rows-count : goal.returns-then-rows-count
 returns-then-rows-count c =
     let l : Listing = listing c.args.network.arcs.now c.args.timetables.now.connections.now c.args.timetables.now.spans.now c.args.first_service c.args.stop c.args.second in
     let w : Whole l (Leaves l) c.begin-count.result = merge_of l (Leaves l) c.begin-count.result (rising_line l c.args.timetables.now.rising) _ c.begin-count.ensures.begun in
-    let count : length w.board ≡ c.begin-count.result = w.all-listed.counted in
+    let count : length w.board ≡ c.begin-count.result = w.all_listed.counted in
     record {
-      posted = posted_past c.args.network.stops l c.args.slots.now c.args.rows.now _ _ _ (sym c.in-default.ensures) (omega arith) refl
-          (outcome_short l w.board (is_board l w.board c.begin-count.result w.all-listed) c.args.rows.now (omega arith));
+      posted = posted_past c.args.network.stops l c.args.slots.now c.args.rows.now _ _ _ (sym c.in_default.ensures) (omega arith) refl
+          (outcome_short l w.board (is_board l w.board c.begin-count.result w.all_listed) c.args.rows.now (omega arith));
       boards_are_one = boards_are_one;
     }
 
@@ -54,7 +54,7 @@ returns c =
     let count : length m.done ≡ c.merge.result = m.all_listed.counted in
     let all : c.merge.result ≡ c.begin-count.result = c.merge.ensures.all ∙ sym c.begin-count.ensures.begun.counted in
     record {
-      posted = posted_past c.args.network.stops l c.args.slots.now c.args.rows.now _ _ _ (sym c.in-default.ensures) (omega arith) (omega arith)
+      posted = posted_past c.args.network.stops l c.args.slots.now c.args.rows.now _ _ _ (sym c.in_default.ensures) (omega arith) (omega arith)
           (outcome_filled l m.done (is_board l m.done c.merge.result m.all_listed) c.args.rows.now _ c.merge.result (sym count) (omega arith) m.holds);
       boards_are_one = boards_are_one;
     }

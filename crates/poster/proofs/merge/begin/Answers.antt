@@ -22,24 +22,24 @@ loop-i-init c =
 pub line-connections-requires : goal.line-connections-requires
 line-connections-requires c = let within = c.leaving-range.ensures.within in omega arith
 
-pub due-count-due-requires : goal.due-count-due-requires
-due-count-due-requires c = let within = c.leaving-range.ensures.within in omega arith
+pub due_count-due-requires : goal.due_count-due-requires
+due_count-due-requires c = let within = c.leaving-range.ensures.within in omega arith
 
-pub overflow-sub-place : goal.overflow-sub-place
-overflow-sub-place c =
+pub overflow_sub-place : goal.overflow_sub-place
+overflow_sub-place c =
     let l : Listing = asked c.args.question in
     let up = rising_line l c.args.question.timetables.now.rising c.loop-i.i in
     let same : length c.line-connections.result.now ≡ length (line l c.loop-i.i) = ap length c.line-connections.ensures in
-    let fewer : c.due-count-due.result ≤ length (line l c.loop-i.i) = omega (arith, caught_few (line l c.loop-i.i) c.args.question.second up, c.due-count-due.ensures) in
+    let fewer : c.due_count-due.result ≤ length (line l c.loop-i.i) = omega (arith, caught_few (line l c.loop-i.i) c.args.question.second up, c.due_count-due.ensures) in
     let few : length (line l c.loop-i.i) ≤ 512 = few_on_line l c.args.question.timetables.now.fit c.loop-i.i in
     omega arith
 
-pub overflow-cast-place : goal.overflow-cast-place
-overflow-cast-place c =
+pub overflow_cast-place : goal.overflow_cast-place
+overflow_cast-place c =
     let l : Listing = asked c.args.question in
     let up = rising_line l c.args.question.timetables.now.rising c.loop-i.i in
     let same : length c.line-connections.result.now ≡ length (line l c.loop-i.i) = ap length c.line-connections.ensures in
-    let fewer : c.due-count-due.result ≤ length (line l c.loop-i.i) = omega (arith, caught_few (line l c.loop-i.i) c.args.question.second up, c.due-count-due.ensures) in
+    let fewer : c.due_count-due.result ≤ length (line l c.loop-i.i) = omega (arith, caught_few (line l c.loop-i.i) c.args.question.second up, c.due_count-due.ensures) in
     let few : length (line l c.loop-i.i) ≤ 512 = few_on_line l c.args.question.timetables.now.fit c.loop-i.i in
     omega arith
 
@@ -51,12 +51,12 @@ enqueue-requires c =
     let room = c.loop-i.invariant.4 in
     record { ready = c.loop-i.invariant.0; room = omega arith }
 
-pub overflow-add-count : goal.overflow-add-count
-overflow-add-count c =
+pub overflow_add-count : goal.overflow_add-count
+overflow_add-count c =
     let l : Listing = asked c.args.question in
     let up = rising_line l c.args.question.timetables.now.rising c.loop-i.i in
     let same : length c.line-connections.result.now ≡ length (line l c.loop-i.i) = ap length c.line-connections.ensures in
-    let fewer : c.due-count-due.result ≤ length (line l c.loop-i.i) = omega (arith, caught_few (line l c.loop-i.i) c.args.question.second up, c.due-count-due.ensures) in
+    let fewer : c.due_count-due.result ≤ length (line l c.loop-i.i) = omega (arith, caught_few (line l c.loop-i.i) c.args.question.second up, c.due_count-due.ensures) in
     let few : length (line l c.loop-i.i) ≤ 512 = few_on_line l c.args.question.timetables.now.fit c.loop-i.i in
     let so_far : c.loop-i.count ≤ 512 * (c.loop-i.i - c.leaving-range.result.first) = c.loop-i.invariant.3 in
     let most : length c.args.question.network.arcs.now ≤ 8192 = c.args.question.network.counted.1 in
@@ -68,14 +68,14 @@ loop-i-preserved c =
     let l : Listing = asked c.args.question in
     let up = rising_line l c.args.question.timetables.now.rising c.loop-i.i in
     let same : length c.line-connections.result.now ≡ length (line l c.loop-i.i) = ap length c.line-connections.ensures in
-    let fewer : c.due-count-due.result ≤ length (line l c.loop-i.i) = omega (arith, caught_few (line l c.loop-i.i) c.args.question.second up, c.due-count-due.ensures) in
+    let fewer : c.due_count-due.result ≤ length (line l c.loop-i.i) = omega (arith, caught_few (line l c.loop-i.i) c.args.question.second up, c.due_count-due.ensures) in
     let few : length (line l c.loop-i.i) ≤ 512 = few_on_line l c.args.question.timetables.now.fit c.loop-i.i in
     let so_far : c.loop-i.count ≤ 512 * (c.loop-i.i - c.leaving-range.result.first) = c.loop-i.invariant.3 in
     let held : length (contents c.loop-i.queue) ≤ c.loop-i.i - c.leaving-range.result.first = c.loop-i.invariant.2 in
-    let at : At (line l c.loop-i.i) c.loop-i.i (length (line l c.loop-i.i) - c.due-count-due.result) c.departure_at.result
-    = subst (λ (z : List Connection). At z c.loop-i.i (length z - c.due-count-due.result) c.departure_at.result) c.line-connections.ensures c.departure_at.ensures in (
+    let at : At (line l c.loop-i.i) c.loop-i.i (length (line l c.loop-i.i) - c.due_count-due.result) c.departure_at.result
+    = subst (λ (z : List Connection). At z c.loop-i.i (length z - c.due_count-due.result) c.departure_at.result) c.line-connections.ensures c.departure_at.ensures in (
       c.enqueue.ensures.ready,
-      begun_next l c.leaving-range.result.first c.loop-i.i c.loop-i.count c.due-count-due.result (contents c.loop-i.queue) (omega arith) up c.due-count-due.ensures c.loop-i.invariant.1
+      begun_next l c.leaving-range.result.first c.loop-i.i c.loop-i.count c.due_count-due.result (contents c.loop-i.queue) (omega arith) up c.due_count-due.ensures c.loop-i.invariant.1
           c.departure_at.result at (contents c.enqueue.new.queue) c.enqueue.ensures.added,
       omega (arith, added_few (contents c.loop-i.queue) c.departure_at.result (contents c.enqueue.new.queue) c.enqueue.ensures.added),
       omega arith,

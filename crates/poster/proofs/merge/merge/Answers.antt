@@ -1,4 +1,4 @@
-use Rattle.std.proofs.Common.{◌≡◌, ℕ, ◌+◌, ◌<◌, ◌≤◌, length, sum_by, ap, arith}
+use Rattle.std.proofs.Common.{ℕ, ◌<◌, length, sum_by, ap, arith}
 use Rattle.queue.specs.Contents.{contents}
 use Rattle.poster.specs.Asked.{asked}
 use Rattle.poster.specs.Boards.{Listing}
@@ -38,8 +38,8 @@ bounds-rows-written c =
     = row_free l all c.args.rows.now c.loop-next.rows (contents c.loop-next.queue) (contents c.pop.new.self) c.in-Some.next c.loop-next.written c.loop-next.invariant.1 c.in-Some.ensures.popped in
     omega arith
 
-pub overflow-add-next : goal.overflow-add-next
-overflow-add-next c =
+pub overflow_add-next : goal.overflow_add-next
+overflow_add-next c =
     let l : Listing = asked c.args.question in
     let all : ℕ = sum_by (left l) (contents c.args.queue.now) in
     let due : DueOn l (Leaves l) c.in-Some.next
@@ -70,6 +70,6 @@ returns c =
     let l : Listing = asked c.args.question in
     let all : ℕ = sum_by (left l) (contents c.args.queue.now) in
     record {
-      merged = writing_ends l all c.args.rows.now c.loop-next.rows (contents c.loop-next.queue) c.loop-next.written c.in-default.ensures.popped.0 c.loop-next.invariant.1;
-      all = all_written l all c.args.rows.now c.loop-next.rows (contents c.loop-next.queue) c.loop-next.written c.in-default.ensures.popped.0 c.loop-next.invariant.1;
+      merged = writing_ends l all c.args.rows.now c.loop-next.rows (contents c.loop-next.queue) c.loop-next.written c.in_default.ensures.popped.0 c.loop-next.invariant.1;
+      all = all_written l all c.args.rows.now c.loop-next.rows (contents c.loop-next.queue) c.loop-next.written c.in_default.ensures.popped.0 c.loop-next.invariant.1;
     }
