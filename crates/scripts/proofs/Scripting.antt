@@ -14,7 +14,7 @@ use Rattle.scripts.specs.declared.step.Action.{Action}
 use Rattle.scripts.specs.declared.step.Action.TheVariants.{Ask, Change as Changing}
 use Rattle.scripts.specs.declared.step.Reply.{Reply}
 use Rattle.scripts.specs.declared.step.Step.{Step}
-use Rattle.scripts.specs.Scripts.{call_of, calls_at, held_by, held, reply_of, Meaning, meaning, Ground, ground, AskAnswered, Replied, Kept, Absent, AnsweredAfter, Performed, Ran}
+use Rattle.scripts.specs.Scripts.{call_of, calls_at, held_by, held, reply_of, Meaning, meaning, Ground, ground_of, AskAnswered, Replied, Kept, Absent, AnsweredAfter, Performed, Ran}
 
 -- the calls and the slot of one step more
 calls_more : (i : ℕ) (xs : List Step) (s : Step) → calls_at i (xs ++ s ∷ []) ≡ calls_at i xs ++ cond (eqb s.planner i) (call_of s.action s.reply) []
@@ -166,6 +166,6 @@ module _ {B R : Type 0} (size : B → ℕ) (answers : B → ℕ → ℕ → Opti
       }
 
 -- the same step over tables of the same lengths
-pub same_ground : {B R : Type 0} {L Q : Type 0} {size : B → ℕ} {answers : B → ℕ → ℕ → Option ℕ} {automata : R → Automaton} (stops : ℕ) (arcs : List Arc) (rows rows' slots slots' : ℕ) {ps ps' : List (Planner B R)} {os os' : List (Option Bulletin)} {s s' : Step} → rows ≡ rows' → slots ≡ slots' → Performed L Q size answers automata (ground stops arcs rows slots) ps os s ps' os' s' → Performed L Q size answers automata (ground stops arcs rows' slots') ps os s ps' os' s'
+pub same_ground : {B R : Type 0} {L Q : Type 0} {size : B → ℕ} {answers : B → ℕ → ℕ → Option ℕ} {automata : R → Automaton} (stops : ℕ) (arcs : List Arc) (rows rows' slots slots' : ℕ) {ps ps' : List (Planner B R)} {os os' : List (Option Bulletin)} {s s' : Step} → rows ≡ rows' → slots ≡ slots' → Performed L Q size answers automata (ground_of stops arcs rows slots) ps os s ps' os' s' → Performed L Q size answers automata (ground_of stops arcs rows' slots') ps os s ps' os' s'
 same_ground {L = L} {Q = Q} {size = size} {answers = answers} {automata = automata} stops arcs rows rows' slots slots' {ps} {ps'} {os} {os'} {s} {s'} e f p =
-    subst (λ (n : ℕ). Performed L Q size answers automata (ground stops arcs rows' n) ps os s ps' os' s') f (subst (λ (n : ℕ). Performed L Q size answers automata (ground stops arcs n slots) ps os s ps' os' s') e p)
+    subst (λ (n : ℕ). Performed L Q size answers automata (ground_of stops arcs rows' n) ps os s ps' os' s') f (subst (λ (n : ℕ). Performed L Q size answers automata (ground_of stops arcs n slots) ps os s ps' os' s') e p)

@@ -136,8 +136,8 @@ pub record Ground : Type 0 where
   pub rows : ℕ
   pub slots : ℕ
 
-abbrev pub ground : ℕ → List Arc → ℕ → ℕ → Ground
-ground stops arcs rows slots = record { stops = stops; arcs = arcs; rows = rows; slots = slots }
+abbrev pub ground_of : ℕ → List Arc → ℕ → ℕ → Ground
+ground_of stops arcs rows slots = record { stops = stops; arcs = arcs; rows = rows; slots = slots }
 
 -- an ask answered, with whatever the label table and the queue held
 pub record AskAnswered (L Q : Type 0) (on : Ground) (m : Meaning) (g : Ledger) (enquiry : Enquiry) (slip slip' : List Leg) (reply : Reply) : Type 0 where

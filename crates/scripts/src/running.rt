@@ -3,7 +3,7 @@ ghost use Rattle.std.specs.Prelude.{◌≡◌, length, Some, None, Option};
 ghost use Rattle.labels.specs.declared.label.Label.{Label};
 ghost use Rattle.engine.specs.declared.entry.Entry.{Entry};
 ghost use Rattle.scripts.specs.declared.step.Reply.TheVariants.{Opened, Shown};
-ghost use Rattle.scripts.specs.Scripts.{told, back, marked, handed, Changed, ChangedAt, Performed, Ran, TablesAfter, TablesKept, ground};
+ghost use Rattle.scripts.specs.Scripts.{told, back, marked, handed, Changed, ChangedAt, Performed, Ran, TablesAfter, TablesKept, ground_of};
 
 use crate::step::{Action, Change, Reply, Step};
 use book::Book;
@@ -40,7 +40,7 @@ fn show<B: Book, R>(
     bulletin: Bulletin,
     change: Change,
 ) -> (Reply, Option<Bulletin>)
-    ensures { Changed services change (Some bulletin) result.1 result.0 planner.old planner.new }
+    ensures { Changed B.Book.services change (Some bulletin) result.1 result.0 planner.old planner.new }
 {
     let mark = bulletin.mark();
     match change {
@@ -64,7 +64,7 @@ fn change_held<B: Book, R>(
     held: Option<Bulletin>,
     change: Change,
 ) -> (Reply, Option<Bulletin>)
-    ensures { Changed services change held result.1 result.0 planner.old planner.new }
+    ensures { Changed B.Book.services change held result.1 result.0 planner.old planner.new }
 {
     match held {
         Some(bulletin) => show(planner, bulletin, change),
@@ -97,7 +97,7 @@ fn change_at<B: Book, R>(
     slot: usize,
     change: Change,
 ) -> Reply
-    ensures { ChangedAt services slot change bulletins.old bulletins.new result planner.old planner.new }
+    ensures { ChangedAt B.Book.services slot change bulletins.old bulletins.new result planner.old planner.new }
 {
     if slot >= bulletins.len() {
         return Reply::Idle;
@@ -117,7 +117,7 @@ fn perform<B: Book, R: Rule>(
     slots: &mut [Entry],
     step: &mut Step,
 )
-    ensures steps { Performed (Option Label) Entry services answer automaton (ground network.entry.stops network.entry.arcs.now (length labels.old) (length slots.old)) planners.old bulletins.old step.old planners.new bulletins.new step.new }
+    ensures steps { Performed (Option Label) Entry B.Book.services B.Book.answer R.Rule.automaton (ground_of network.entry.stops network.entry.arcs.now (length labels.old) (length slots.old)) planners.old bulletins.old step.old planners.new bulletins.new step.new }
     ensures tables { TablesAfter step.new.reply labels.old labels.new slots.old slots.new }
 {
     let at = step.planner;
@@ -146,7 +146,7 @@ pub fn run<B: Book, R: Rule>(
     slots: &mut [Entry],
     script: &mut [Step],
 )
-    ensures steps { Ran (Option Label) Entry services answer automaton (ground network.entry.stops network.entry.arcs.now (length labels.old) (length slots.old)) planners.old bulletins.old script.old planners.new bulletins.new script.new }
+    ensures steps { Ran (Option Label) Entry B.Book.services B.Book.answer R.Rule.automaton (ground_of network.entry.stops network.entry.arcs.now (length labels.old) (length slots.old)) planners.old bulletins.old script.old planners.new bulletins.new script.new }
     ensures tables { TablesKept script.new (length script.new) labels.old labels.new slots.old slots.new }
 {
     for step in script.iter_mut() {

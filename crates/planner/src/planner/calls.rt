@@ -25,7 +25,7 @@ impl<B: Book, R> Planner<B, R> {
     /// A planner without notices and without a draft.
     pub fn new(book: B, rule: R, mark: u32) -> Planner<B, R>
         ensures kept { (result.book.below ≡ book) × (result.rule ≡ rule) × (result.mark ≡ mark) }
-        ensures fresh { AsLedger services result [] }
+        ensures fresh { AsLedger B.Book.services result [] }
     {
         Planner {
             book: NoticeBook::new(book),
@@ -38,8 +38,8 @@ impl<B: Book, R> Planner<B, R> {
 
     /// Copies the standing notices into a draft, and hands out a bulletin for it.
     pub fn open(&mut self) -> Result<Bulletin, Refusal>
-        ensures answer { result ≡ handing (record { mark = self.old.mark }) (refusing services self.old Open) }
-        ensures made { Made services Open self.old self.new }
+        ensures answer { result ≡ handing (record { mark = self.old.mark }) (refusing B.Book.services self.old Open) }
+        ensures made { Made B.Book.services Open self.old self.new }
     {
         if self.drafting {
             return Err(Refusal::BulletinOpen);
@@ -58,15 +58,15 @@ impl<B: Book, R> Planner<B, R> {
 
     /// Whether the notice's fields are in range and its service is one of the book's.
     fn allows(&self, notice: &Notice) -> bool
-        ensures { result ≡ allowed (services self.now.book.below) notice.now }
+        ensures { result ≡ allowed (B.Book.services self.now.book.below) notice.now }
     {
         notice.in_range() && notice.service < self.book.count()
     }
 
     /// Rewrites the draft's notice of that service, or adds one at its end.
     pub fn put(&mut self, bulletin: &Bulletin, notice: Notice) -> Result<(), Refusal>
-        ensures answer { result ≡ handing tt (refusing services self.old (Put bulletin.now.mark notice)) }
-        ensures made { Made services (Put bulletin.now.mark notice) self.old self.new }
+        ensures answer { result ≡ handing tt (refusing B.Book.services self.old (Put bulletin.now.mark notice)) }
+        ensures made { Made B.Book.services (Put bulletin.now.mark notice) self.old self.new }
     {
         if !self.knows(bulletin) {
             return Err(Refusal::NoSuchBulletin);
@@ -79,8 +79,8 @@ impl<B: Book, R> Planner<B, R> {
 
     /// Takes the service's notice out of the draft.
     pub fn lift(&mut self, bulletin: &Bulletin, service: u32) -> Result<(), Refusal>
-        ensures answer { result ≡ handing tt (refusing services self.old (Lift bulletin.now.mark service)) }
-        ensures made { Made services (Lift bulletin.now.mark service) self.old self.new }
+        ensures answer { result ≡ handing tt (refusing B.Book.services self.old (Lift bulletin.now.mark service)) }
+        ensures made { Made B.Book.services (Lift bulletin.now.mark service) self.old self.new }
     {
         if !self.knows(bulletin) {
             return Err(Refusal::NoSuchBulletin);
@@ -98,8 +98,8 @@ impl<B: Book, R> Planner<B, R> {
 
     /// Makes the draft's notices the standing ones.
     pub fn issue(&mut self, bulletin: Bulletin) -> Result<(), Returned>
-        ensures answer { result ≡ returning bulletin (refusing services self.old (Issue bulletin.mark)) }
-        ensures made { Made services (Issue bulletin.mark) self.old self.new }
+        ensures answer { result ≡ returning bulletin (refusing B.Book.services self.old (Issue bulletin.mark)) }
+        ensures made { Made B.Book.services (Issue bulletin.mark) self.old self.new }
     {
         if !self.knows(&bulletin) {
             return Err(Returned {
@@ -114,8 +114,8 @@ impl<B: Book, R> Planner<B, R> {
 
     /// Forgets the draft.
     pub fn tear_up(&mut self, bulletin: Bulletin) -> Result<(), Returned>
-        ensures answer { result ≡ returning bulletin (refusing services self.old (TearUp bulletin.mark)) }
-        ensures made { Made services (TearUp bulletin.mark) self.old self.new }
+        ensures answer { result ≡ returning bulletin (refusing B.Book.services self.old (TearUp bulletin.mark)) }
+        ensures made { Made B.Book.services (TearUp bulletin.mark) self.old self.new }
     {
         if !self.knows(&bulletin) {
             return Err(Returned {
@@ -139,7 +139,7 @@ impl<B: Book, R: Rule> Planner<B, R> {
         slots: &mut [Entry],
         slip: &mut [Leg],
     ) -> Result<Found, Refusal>
-        ensures { Planned services answer automaton self.now network.entry.stops network.entry.arcs.now enquiry labels.old labels.new slots.old slots.new slip.old slip.new result }
+        ensures { Planned B.Book.services B.Book.answer R.Rule.automaton self.now network.entry.stops network.entry.arcs.now enquiry labels.old labels.new slots.old slots.new slip.old slip.new result }
     {
         search::ask(
             network, &self.book, &self.rule, enquiry, labels, slots, slip,

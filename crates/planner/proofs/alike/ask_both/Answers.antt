@@ -8,5 +8,5 @@ returns g c =
     record {
       first = one;
       second = other;
-      alike = same_where_alike g.B.Book.answer g.R.Rule.automaton g.C.Book.answer g.S.Rule.automaton c.args.first.now c.args.second.now g.B.Book.services g.C.Book.services c.args.network.stops c.args.network.arcs.now c.args.enquiry c.args.first-labels.now c.ask-one.new.labels c.args.first-slots.now c.ask-one.new.slots c.args.first-slip.now c.ask-one.new.slip c.args.second-labels.now c.ask-other.new.labels c.args.second-slots.now c.ask-other.new.slots c.args.second-slip.now c.ask-other.new.slip c.ask-one.result c.ask-other.result one other;
+      alike = same_where_alike g.B.Book.answer g.R.Rule.automaton g.C.Book.answer g.S.Rule.automaton c.args.first.now c.args.second.now g.B.Book.services g.C.Book.services c.args.network.stops c.args.network.arcs.now c.args.enquiry c.args.first_labels.now c.ask-one.new.labels c.args.first_slots.now c.ask-one.new.slots c.args.first_slip.now c.ask-one.new.slip c.args.second_labels.now c.ask-other.new.labels c.args.second_slots.now c.ask-other.new.slots c.args.second_slip.now c.ask-other.new.slip c.ask-one.result c.ask-other.result one other;
     }

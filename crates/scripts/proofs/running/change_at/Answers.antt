@@ -4,4 +4,4 @@ use Rattle.scripts.proofs.running.change_at.Goals as goal
 
 pub returns : goal.returns
 returns g c =
-    changed_at g.B.Book.services c.args.slot c.args.change c.args.bulletins.now c.args.planner.now c.change-held-reply.new.planner c.take_held.result c.change-held-reply.result.1 c.lay.new.slot c.take_held.new.self c.change-held-reply.result.0 c.if-slot-bulletins.false c.take_held.ensures.value c.lay.ensures c.change-held-reply.ensures
+    changed_at g.B.Book.services c.args.slot c.args.change c.args.bulletins.now c.args.planner.now c.change_held-reply.new.planner c.take-held.result c.change_held-reply.result.1 c.lay.new.slot c.take-held.new.self c.change_held-reply.result.0 c.if-slot-bulletins.false c.take-held.ensures.value c.lay.ensures c.change_held-reply.ensures
