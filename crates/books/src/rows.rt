@@ -1,6 +1,6 @@
 //! Tables whose rows belong to services, each service having a list of them.
 ghost use Rattle.std.specs.Prelude.{◌≡◌, ◌+◌, ◌≤◌, length, None, Option};
-ghost use Rattle.meanings.specs.Spans.{rows as rows_of_lem};
+ghost use Rattle.meanings.specs.Spans.{rows as rows_of};
 ghost use Rattle.books.specs.declared.fault.Field.{Field as FieldFault};
 ghost use Rattle.books.specs.Faults.{connection_fault, point_fault, rows_fault, list_fault, lists_fault};
 
@@ -74,7 +74,7 @@ impl Row for Point {
 /// The rows of a span.
 pub(crate) fn rows<T>(table: &[T], span: Span) -> &[T]
     requires { span.start + span.len ≤ length table.now }
-    ensures { result.now ≡ rows_of_lem table.now span }
+    ensures { result.now ≡ rows_of table.now span }
 {
     let start = span.start;
     let end = start + span.len;

@@ -1,4 +1,6 @@
 //! The contents of a network file in tables of their own, and the book and the network over them.
+#![tactic(auto)]
+
 mod laying;
 mod tables;
 

@@ -1,4 +1,6 @@
 //! Rule files as they are read, and network files as they are written.
+#![tactic(auto)]
+
 #[cfg(test)]
 mod network_files;
 #[cfg(test)]

@@ -1,3 +1,5 @@
 //! Network files at their edges.
+#![tactic(auto)]
+
 #[cfg(test)]
 mod tests;

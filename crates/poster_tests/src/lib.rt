@@ -1,3 +1,5 @@
 //! Posters at their edges.
+#![tactic(auto)]
+
 #[cfg(test)]
 mod tests;
