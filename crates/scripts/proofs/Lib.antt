@@ -1,3 +1,5 @@
 pub mod Performing
 pub mod Scripting
 pub mod Tables
+pub mod Balancing
+pub mod Ending

@@ -4,6 +4,7 @@ ghost use Rattle.labels.specs.declared.label.Label.{Label};
 ghost use Rattle.engine.specs.declared.entry.Entry.{Entry};
 ghost use Rattle.scripts.specs.declared.step.Reply.TheVariants.{Opened, Shown};
 ghost use Rattle.scripts.specs.Scripts.{told, back, marked, handed, Changed, ChangedAt, Performed, Ran, TablesAfter, TablesKept, ground_of};
+ghost use Rattle.scripts.specs.Balances.{Balanced, SlotsBalance};
 
 use crate::step::{Action, Change, Reply, Step};
 use book::Book;
@@ -97,7 +98,8 @@ fn change_at<B: Book, R>(
     slot: usize,
     change: Change,
 ) -> Reply
-    ensures { ChangedAt B.Book.services slot change bulletins.old bulletins.new result planner.old planner.new }
+    ensures changed { ChangedAt B.Book.services slot change bulletins.old bulletins.new result planner.old planner.new }
+    ensures balance { SlotsBalance planner.old planner.new bulletins.old bulletins.new }
 {
     if slot >= bulletins.len() {
         return Reply::Idle;
@@ -119,6 +121,7 @@ fn perform<B: Book, R: Rule>(
 )
     ensures steps { Performed (Option Label) Entry B.Book.services B.Book.answer R.Rule.automaton (ground_of network.entry.stops network.entry.arcs.now (length labels.old) (length slots.old)) planners.old bulletins.old step.old planners.new bulletins.new step.new }
     ensures tables { TablesAfter step.new.reply labels.old labels.new slots.old slots.new }
+    ensures balanced { Balanced planners.old bulletins.old → Balanced planners.new bulletins.new }
 {
     let at = step.planner;
     if at >= planners.len() {
@@ -148,6 +151,7 @@ pub fn run<B: Book, R: Rule>(
 )
     ensures steps { Ran (Option Label) Entry B.Book.services B.Book.answer R.Rule.automaton (ground_of network.entry.stops network.entry.arcs.now (length labels.old) (length slots.old)) planners.old bulletins.old script.old planners.new bulletins.new script.new }
     ensures tables { TablesKept script.new (length script.new) labels.old labels.new slots.old slots.new }
+    ensures balanced { Balanced planners.old bulletins.old → Balanced planners.new bulletins.new }
 {
     for step in script.iter_mut() {
         perform(network, planners, bulletins, labels, slots, step);

@@ -2,6 +2,7 @@ use Rattle.std.proofs.Common.{◌≡◌, ◌≤◌, length, Option}
 use Rattle.labels.specs.declared.label.Label.{Label}
 use Rattle.engine.specs.declared.entry.Entry.{Entry}
 use Rattle.scripts.specs.Scripts.{ground_of, TablesKept}
+use Rattle.scripts.specs.Balances.{Balanced}
 use Rattle.scripts.proofs.Scripting.{Running}
 use Rattle.scripts.proofs.running.run.Given as goal
 
@@ -10,3 +11,4 @@ invariant-loop-step g l =
     (l.step-index ≤ length l.script)
     × Running g.B.Book.services g.B.Book.answer g.R.Rule.automaton (Option Label) Entry (ground_of l.network.stops l.network.arcs.now (length l.initial.labels) (length l.initial.slots)) l.initial.planners l.initial.bulletins l.initial.script l.planners l.bulletins l.script l.step-index
     × TablesKept l.script l.step-index l.initial.labels l.labels l.initial.slots l.slots
+    × (Balanced l.initial.planners l.initial.bulletins → Balanced l.planners l.bulletins)

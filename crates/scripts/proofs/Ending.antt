@@ -1,0 +1,96 @@
+-- At a script's end every bulletin that is out is taken in.
+use Rattle.std.proofs.Common.{◌≡◌, ℕ, suc, ◌+◌, ◌<◌, ◌≤◌, Bool, true, false, cond, eqb, List, [], ◌∷◌, length, get_or, set, take, Some, None, Ok, Err, Option, Result, sym, refl, ap, ◌∙◌, subst, arith, eq-eqb}
+use Rattle.std.proofs.lemmas.List.{take_more_set, take_all}
+use Rattle.std.proofs.lemmas.List.Sums.{sum_by-set, sum_by_push}
+use Rattle.std.specs.List.{count_by}
+use Rattle.model.specs.declared.refusal.Refusal.{Refusal}
+use Rattle.model.specs.declared.refusal.Refusal.TheVariants.{NoSuchBulletin}
+use Rattle.notices.specs.Notices.{unless, handing}
+use Rattle.ledger.specs.Ledgers.{Ledger, good, after, doing, refusal, TearUp as TearUpCall}
+use Rattle.planner.specs.declared.planner.Bulletin.{Bulletin}
+use Rattle.planner.specs.declared.planner.Returned.{Returned}
+use Rattle.planner.specs.declared.planner.Planner.{Planner}
+use Rattle.planner.specs.Planners.{state, refusing, returning, Made}
+use Rattle.scripts.specs.declared.step.Change.TheVariants.{TearUp}
+use Rattle.scripts.specs.declared.step.Reply.TheVariants.{Shown}
+use Rattle.scripts.specs.Scripts.{back, returned, Changed}
+use Rattle.scripts.specs.Balances.{bit, knows, holds, Balanced, SlotBalance, ToreUp, ToreUpAt}
+use Rattle.scripts.proofs.Balancing.{slot_balance}
+
+back_is : (b : Bulletin) (r : Option Refusal) → back (returning b r) ≡ returned (handing tt r) (Some b)
+back_is b None = refl
+back_is b (Some e) = refl
+
+-- what a refused tearing up leaves
+kept_back : (k : ℕ) (g x : Ledger) (b b' : Bulletin) (t : Bool) → good k b.mark g ≡ t → back (returning b (cond t None (Some NoSuchBulletin))) ≡ Some b'
+    → (Some b ≡ Some b') × (good k b'.mark (unless (cond t None (Some NoSuchBulletin)) x g) ≡ false)
+kept_back k g x b b' true e f = let z : ◌≡◌ {A = ℕ} 0 1 = cc in absurd (omega arith)
+kept_back k g x b b' false e f = let same : b ≡ b' = cc in (f, subst (λ (y : Bulletin). good k y.mark g ≡ false) same e)
+
+pub torn : {B R : Type 0} (size : B → ℕ) (p q : Planner B R) (b : Bulletin) (answer : Result (Unit {0}) Returned)
+    → answer ≡ returning b (refusing size p (TearUpCall b.mark)) → Made size (TearUpCall b.mark) p q → ToreUpAt p q (Some b) (back answer)
+torn size p q b answer is made =
+    let g = state p in
+    let r = refusing size p (TearUpCall b.mark) in
+    record {
+      balance =
+          slot_balance size TearUp (Some b) (back answer) (Shown b.mark (handing tt r)) p q
+          (record { replied = refl; slot = ap back is ∙ back_is b r; kept = record { book = made.book; rule = made.rule; mark = made.mark }; then = made.then });
+      left = λ b' f.
+          let kept = kept_back p.mark g (doing g (TearUpCall b.mark)) b b' (good p.mark b.mark g) refl (sym (ap back is) ∙ f) in
+          (kept.0, (λ i. good (made.mark i) b'.mark (made.then i)) ∙ kept.1);
+    }
+
+pub torn_none : {B R : Type 0} (p : Planner B R) → ToreUpAt p p None None
+torn_none p = record { balance = λ m. refl; left = λ b f. let z : ◌≡◌ {A = ℕ} 0 1 = cc in absurd (omega arith) }
+
+-- the first n planners have been asked
+pub record Tearing {B R : Type 0} (ps ps' : List (Planner B R)) (o o' : Option Bulletin) (n : ℕ) : Type 0 where
+  pub balance : (m : ℕ) → count_by (knows m) ps' + bit (holds m o) ≡ count_by (knows m) ps + bit (holds m o')
+  pub left : (b : Bulletin) → o' ≡ Some b → count_by (knows b.mark) (take n ps') ≡ 0
+
+pub tearing_none : {B R : Type 0} (ps : List (Planner B R)) (o : Option Bulletin) → Tearing ps ps o o 0
+tearing_none ps o = record { balance = λ m. refl; left = λ b f. refl }
+
+pub tearing_more : {B R : Type 0} (ps ps' : List (Planner B R)) (p q : Planner B R) (o o' o'' : Option Bulletin) (n : ℕ)
+    → n < length ps' → p ≡ get_or ps' n p → ToreUpAt p q o' o'' → Tearing ps ps' o o' n → Tearing ps (set ps' n q) o o'' (n + 1)
+tearing_more ps ps' p q o o' o'' n lt read one all = record {
+  balance = λ m.
+      let total = sum_by-set (λ (x : Planner _ _). bit (knows m x)) ps' n q p lt in
+      let was : bit (knows m (get_or ps' n p)) ≡ bit (knows m p) = ap (λ (x : Planner _ _). bit (knows m x)) (sym read) in
+      omega (arith, total, was, one.balance m, all.balance m);
+  left = λ b f.
+      let here = one.left b f in
+      let before = all.left b here.0 in
+      let here_none : bit (knows b.mark q) ≡ 0 = ap bit here.1 in
+      ap (λ (xs : List (Planner _ _)). count_by (knows b.mark) xs) (take_more_set ps' n q lt)
+      ∙ sum_by_push (λ (x : Planner _ _). bit (knows b.mark x)) (take n ps') q
+      ∙ omega (arith, before, here_none);
+}
+
+pub tearing_all : {B R : Type 0} (ps ps' : List (Planner B R)) (o o' : Option Bulletin) (n : ℕ) → length ps' ≤ n → Tearing ps ps' o o' n → ToreUp ps ps' o o'
+tearing_all ps ps' o o' n le t = record {
+  balance = t.balance;
+  left = λ b f. ap (λ (xs : List (Planner _ _)). count_by (knows b.mark) xs) (sym (take_all n ps' le)) ∙ t.left b f;
+}
+
+same_mark : (b : Bulletin) → bit (holds b.mark (Some b)) ≡ 1
+same_mark b = ap bit (eq-eqb b.mark b.mark refl)
+
+-- a bulletin that is left would be one too many
+none_of : (o : Option Bulletin) → ((b : Bulletin) → o ≡ Some b → ⊥) → o ≡ None
+none_of None never = refl
+none_of (Some b) never = absurd (never b refl)
+
+pub none_is_left : {B R : Type 0} (ps ps' ps'' : List (Planner B R)) (o p o' p' : Option Bulletin)
+    → Balanced ps (o ∷ p ∷ []) → ToreUp ps ps' o o' → ToreUp ps' ps'' p p' → (o' ≡ None) × (p' ≡ None)
+none_is_left ps ps' ps'' o p o' p' even one two =
+    let first : o' ≡ None = none_of o' (λ b f.
+      let m = b.mark in
+      let is : bit (holds m o') ≡ 1 = ap (λ (x : Option Bulletin). bit (holds m x)) f ∙ same_mark b in
+      omega (arith, even m, one.balance m, one.left b f, is)) in
+    (first, none_of p' (λ b f.
+      let m = b.mark in
+      let none : bit (holds m o') ≡ 0 = ap (λ (x : Option Bulletin). bit (holds m x)) first in
+      let is : bit (holds m p') ≡ 1 = ap (λ (x : Option Bulletin). bit (holds m x)) f ∙ same_mark b in
+      omega (arith, even m, one.balance m, none, two.balance m, two.left b f, is)))
