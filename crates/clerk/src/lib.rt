@@ -1,4 +1,6 @@
 //! A planner's ledger kept in the plainest way: two lists of notices.
+#![tactic(auto)]
+
 ghost use Rattle.std.specs.Prelude.{◌≡◌, [], None};
 ghost use Rattle.clerk.specs.Marks.{Knows};
 

@@ -1,4 +1,6 @@
 //! Holds what the planners answered against what the lister and the clerk say, and counts what was seen.
+#![tactic(auto)]
+
 mod asks;
 mod counts;
 mod judge;

@@ -1,4 +1,6 @@
 //! Draws small towns, rules and calls: rich in ties, in arcs of no seconds, in dead ends and in what is refused.
+#![tactic(auto)]
+
 mod calls;
 mod rule;
 mod script;

@@ -1,5 +1,5 @@
 -- Planners that are alike make one world, and asks in one world are answered alike.
-use Rattle.std.proofs.Common.{◌≡◌, ℕ, List, take, Ok, Option, Result, sym, subst}
+use Rattle.std.proofs.Common.{◌≡◌, ℕ, List, Ok, Option, Result, sym, subst}
 use Rattle.model.specs.declared.enquiry.Enquiry.{Enquiry}
 use Rattle.model.specs.declared.enquiry.Found.{Found}
 use Rattle.model.specs.declared.network.Arc.{Arc}

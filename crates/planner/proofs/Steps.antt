@@ -13,10 +13,10 @@ use Rattle.notices.specs.declared.notice.Notice.{Notice}
 use Rattle.notices.specs.declared.table.NoticeTable.{NoticeTable}
 use Rattle.notices.specs.Notices.{put_in, lift_from, put_refusal, lift_refusal, unless}
 use Rattle.notices.specs.Tables.{listed}
-use Rattle.ledger.specs.Ledgers.{Call, Ask, Open, Put, Lift, Issue, TearUp, Ledger, drafted, good, allowed, refusal, doing, after, fresh, ledger}
+use Rattle.ledger.specs.Ledgers.{Call, Ask, Open, Put, Lift, Issue, TearUp, Ledger, drafted, good, allowed, doing, after, fresh, ledger}
 use Rattle.ledger.proofs.Runs.{going_append}
 use Rattle.planner.specs.declared.planner.Planner.{Planner}
-use Rattle.planner.specs.Planners.{state, AsLedger, refusing, Made, Planned, world_under}
+use Rattle.planner.specs.Planners.{state, refusing, Made, Planned, world_under}
 
 some_if : {X : Type 0} (b : Bool) (x : X) → is_some (cond b (Some x) None) ≡ b
 some_if true x = refl

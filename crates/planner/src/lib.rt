@@ -1,4 +1,6 @@
 //! The planner: a book under notices, a rule and a mark; its notices are changed through bulletins.
+#![tactic(auto)]
+
 mod alike;
 mod planner;
 

@@ -1,5 +1,5 @@
 -- What one step makes of the planners and the slots.
-use Rattle.std.proofs.Common.{◌≡◌, ℕ, ◌<◌, Bool, true, false, cond, eqb, ◌≢◌, List, length, get_or, set, None, Option, Result, sym, refl, ap, ◌∙◌, subst, ⊎_elim, arith}
+use Rattle.std.proofs.Common.{◌≡◌, ℕ, ◌<◌, true, false, eqb, ◌≢◌, List, length, get_or, set, None, Option, Result, sym, refl, ap, ◌∙◌, subst, ⊎_elim, arith}
 use Rattle.std.proofs.lemmas.List.{set-set, get_or-set_same, get_or-set_other, get_or_default}
 use Rattle.std.proofs.lemmas.Bool.{cond-true, cond-false, cases_Bool, eqb-true, eqb-false}
 use Rattle.model.specs.declared.enquiry.Enquiry.{Enquiry}
@@ -18,7 +18,7 @@ use Rattle.scripts.specs.declared.step.Action.TheVariants.{Ask, Change as Changi
 use Rattle.scripts.specs.declared.step.Reply.{Reply}
 use Rattle.scripts.specs.declared.step.Reply.TheVariants.{Asked as Answered}
 use Rattle.scripts.specs.declared.step.Step.{Step}
-use Rattle.scripts.specs.Scripts.{call_of, changing, laid, held_by, reply_of, meaning, Ground, AskAnswered, Replied, Kept, Changed, ChangedAt, Performed}
+use Rattle.scripts.specs.Scripts.{call_of, changing, laid, held_by, reply_of, meaning, Ground, Replied, Kept, Changed, ChangedAt, Performed}
 
 pub changed_at : {B R : Type 0} (size : B → ℕ) (j : ℕ) (c : Change) (os : List (Option Bulletin)) (p q : Planner B R) (o o₂ o' x : Option Bulletin) (reply : Reply)
     → j < length os → o ≡ get_or os j None → o' ≡ o₂ → Changed size c o o₂ reply p q → ChangedAt size j c os (set (set os j x) j o') reply p q

@@ -1,4 +1,6 @@
 //! Scripts of calls over several planners.
+#![tactic(auto)]
+
 mod running;
 mod step;
 

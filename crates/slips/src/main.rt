@@ -1,4 +1,6 @@
 //! Reads a network file, a rule file and enquiries from standard input, and prints each enquiry's slip.
+#![tactic(auto)]
+
 mod answers;
 mod halt;
 mod tables;

@@ -1,4 +1,6 @@
 //! The planner's own calls of a trial: a script over two planners, then asks with slips of any length.
+#![tactic(auto)]
+
 mod asks;
 mod play;
 

@@ -1,4 +1,3 @@
-use Rattle.std.proofs.Common.{arith}
 use Rattle.scripts.proofs.Performing.{changed_at}
 use Rattle.scripts.proofs.Balancing.{slot_balance, slots_balance}
 use Rattle.scripts.proofs.running.change_at.Goals as goal

@@ -1,4 +1,4 @@
-use Rattle.std.proofs.Common.{◌≡◌, ◌≤◌, length, Option}
+use Rattle.std.proofs.Common.{◌≤◌, length, Option}
 use Rattle.labels.specs.declared.label.Label.{Label}
 use Rattle.engine.specs.declared.entry.Entry.{Entry}
 use Rattle.scripts.specs.Scripts.{ground_of, TablesKept}
