@@ -1,5 +1,5 @@
 -- A bulletin goes out where a draft opens, and is taken in where it closes.
-use Rattle.std.proofs.Common.{◌≡◌, ℕ, ◌+◌, ◌<◌, Bool, true, false, cond, eqb, ◌≢◌, List, [], ◌∷◌, length, get_or, set, Some, None, Option, sym, refl, ap, ◌∙◌, subst, arith}
+use Rattle.std.proofs.Common.{◌≡◌, ℕ, ◌+◌, ◌<◌, Bool, true, false, cond, eqb, List, length, get_or, set, Some, None, Option, sym, refl, ap, ◌∙◌, arith}
 use Rattle.std.proofs.lemmas.Bool.{eqb-true}
 use Rattle.std.proofs.lemmas.List.{set-set}
 use Rattle.std.proofs.lemmas.List.Sums.{sum_by-set}
@@ -7,8 +7,8 @@ use Rattle.std.specs.List.{count_by}
 use Rattle.model.specs.declared.refusal.Refusal.{Refusal}
 use Rattle.model.specs.declared.refusal.Refusal.TheVariants.{NoSuchBulletin}
 use Rattle.notices.specs.declared.notice.Notice.{Notice}
-use Rattle.notices.specs.Notices.{unless, handing, put_in, lift_from, put_refusal, lift_refusal}
-use Rattle.ledger.specs.Ledgers.{Ledger, good, going, refusal, doing, Put as PutCall, Lift as LiftCall}
+use Rattle.notices.specs.Notices.{unless, handing, put_in, lift_from}
+use Rattle.ledger.specs.Ledgers.{Ledger, good, going, refusal, Put as PutCall, Lift as LiftCall}
 use Rattle.planner.specs.declared.planner.Bulletin.{Bulletin}
 use Rattle.planner.specs.declared.planner.Planner.{Planner}
 use Rattle.planner.specs.Planners.{state}
@@ -35,8 +35,8 @@ spent : (k m : ℕ) (s ns t : List Notice) (b : Bulletin)
     ≡ bit (good k m (drafting s ns)) + bit (holds m (returned (handing tt (cond (eqb b.mark k) None (Some NoSuchBulletin))) (Some b)))
 spent k m s ns t b =
     elim (eqb b.mark k) as (λ (y : Bool). eqb b.mark k ≡ y
-      → bit (good k m (unless (cond y None (Some NoSuchBulletin)) (idle t) (drafting s ns))) + bit (eqb m b.mark)
-      ≡ bit (good k m (drafting s ns)) + bit (holds m (returned (handing tt (cond y None (Some NoSuchBulletin))) (Some b)))) [
+    → bit (good k m (unless (cond y None (Some NoSuchBulletin)) (idle t) (drafting s ns))) + bit (eqb m b.mark)
+    ≡ bit (good k m (drafting s ns)) + bit (holds m (returned (handing tt (cond y None (Some NoSuchBulletin))) (Some b)))) [
       | true ↦ λ e. let same : bit (eqb m b.mark) ≡ bit (eqb m k) = ap (λ (n : ℕ). bit (eqb m n)) (eqb-true _ _ e) in omega arith
       | false ↦ λ _. refl
     ] refl

@@ -1,20 +1,20 @@
 -- At a script's end every bulletin that is out is taken in.
-use Rattle.std.proofs.Common.{◌≡◌, ℕ, suc, ◌+◌, ◌<◌, ◌≤◌, Bool, true, false, cond, eqb, List, [], ◌∷◌, length, get_or, set, take, Some, None, Ok, Err, Option, Result, sym, refl, ap, ◌∙◌, subst, arith, eq-eqb}
+use Rattle.std.proofs.Common.{◌≡◌, ℕ, ◌+◌, ◌<◌, ◌≤◌, Bool, true, false, cond, List, [], ◌∷◌, length, get_or, set, take, Some, None, Option, Result, sym, refl, ap, ◌∙◌, subst, arith, eq-eqb}
 use Rattle.std.proofs.lemmas.List.{take_more_set, take_all}
 use Rattle.std.proofs.lemmas.List.Sums.{sum_by-set, sum_by_push}
 use Rattle.std.specs.List.{count_by}
 use Rattle.model.specs.declared.refusal.Refusal.{Refusal}
 use Rattle.model.specs.declared.refusal.Refusal.TheVariants.{NoSuchBulletin}
 use Rattle.notices.specs.Notices.{unless, handing}
-use Rattle.ledger.specs.Ledgers.{Ledger, good, after, doing, refusal, TearUp as TearUpCall}
+use Rattle.ledger.specs.Ledgers.{Ledger, good, doing, TearUp as TearUpCall}
 use Rattle.planner.specs.declared.planner.Bulletin.{Bulletin}
 use Rattle.planner.specs.declared.planner.Returned.{Returned}
 use Rattle.planner.specs.declared.planner.Planner.{Planner}
 use Rattle.planner.specs.Planners.{state, refusing, returning, Made}
 use Rattle.scripts.specs.declared.step.Change.TheVariants.{TearUp}
 use Rattle.scripts.specs.declared.step.Reply.TheVariants.{Shown}
-use Rattle.scripts.specs.Scripts.{back, returned, Changed}
-use Rattle.scripts.specs.Balances.{bit, knows, holds, Balanced, SlotBalance, ToreUp, ToreUpAt}
+use Rattle.scripts.specs.Scripts.{back, returned}
+use Rattle.scripts.specs.Balances.{bit, knows, holds, Balanced, ToreUp, ToreUpAt}
 use Rattle.scripts.proofs.Balancing.{slot_balance}
 
 back_is : (b : Bulletin) (r : Option Refusal) → back (returning b r) ≡ returned (handing tt r) (Some b)
@@ -82,15 +82,28 @@ none_of : (o : Option Bulletin) → ((b : Bulletin) → o ≡ Some b → ⊥) �
 none_of None never = refl
 none_of (Some b) never = absurd (never b refl)
 
-pub none_is_left : {B R : Type 0} (ps ps' ps'' : List (Planner B R)) (o p o' p' : Option Bulletin)
+none_is_left : {B R : Type 0} (ps ps' ps'' : List (Planner B R)) (o p o' p' : Option Bulletin)
     → Balanced ps (o ∷ p ∷ []) → ToreUp ps ps' o o' → ToreUp ps' ps'' p p' → (o' ≡ None) × (p' ≡ None)
 none_is_left ps ps' ps'' o p o' p' even one two =
     let first : o' ≡ None = none_of o' (λ b f.
-      let m = b.mark in
-      let is : bit (holds m o') ≡ 1 = ap (λ (x : Option Bulletin). bit (holds m x)) f ∙ same_mark b in
-      omega (arith, even m, one.balance m, one.left b f, is)) in
-    (first, none_of p' (λ b f.
-      let m = b.mark in
-      let none : bit (holds m o') ≡ 0 = ap (λ (x : Option Bulletin). bit (holds m x)) first in
-      let is : bit (holds m p') ≡ 1 = ap (λ (x : Option Bulletin). bit (holds m x)) f ∙ same_mark b in
-      omega (arith, even m, one.balance m, none, two.balance m, two.left b f, is)))
+    let m = b.mark in
+    let is : bit (holds m o') ≡ 1 = ap (λ (x : Option Bulletin). bit (holds m x)) f ∙ same_mark b in
+    omega (arith, even m, one.balance m, one.left b f, is)) in (
+      first,
+      none_of p' (λ b f.
+          let m = b.mark in
+          let none : bit (holds m o') ≡ 0 = ap (λ (x : Option Bulletin). bit (holds m x)) first in
+          let is : bit (holds m p') ≡ 1 = ap (λ (x : Option Bulletin). bit (holds m x)) f ∙ same_mark b in
+          omega (arith, even m, one.balance m, none, two.balance m, two.left b f, is)),
+    )
+
+two_slots : (os : List (Option Bulletin)) → length os ≡ 2 → os ≡ get_or os 0 None ∷ get_or os 1 None ∷ []
+two_slots [] e = absurd (omega arith)
+two_slots (o ∷ []) e = absurd (omega arith)
+two_slots (o ∷ p ∷ []) e = refl
+two_slots (o ∷ p ∷ x ∷ xs) e = absurd (omega arith)
+
+-- nor is one left of two slots
+pub none_is_left_of_two : {B R : Type 0} (ps ps' ps'' : List (Planner B R)) (os : List (Option Bulletin)) (o' p' : Option Bulletin)
+    → length os ≡ 2 → Balanced ps os → ToreUp ps ps' (get_or os 0 None) o' → ToreUp ps' ps'' (get_or os 1 None) p' → (o' ≡ None) × (p' ≡ None)
+none_is_left_of_two ps ps' ps'' os o' p' two even = none_is_left ps ps' ps'' (get_or os 0 None) (get_or os 1 None) o' p' (subst (Balanced ps) (two_slots os two) even)

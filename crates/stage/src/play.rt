@@ -1,5 +1,8 @@
 //! A script and asks, played.
-ghost use Rattle.std.specs.Prelude.{◌≡◌};
+ghost use Rattle.std.specs.Prelude.{◌≡◌, [], ◌∷◌, None, Ok, IfOk, IfErr};
+ghost use Rattle.scripts.specs.Scripts.{back};
+ghost use Rattle.scripts.specs.Balances.{Balanced, ToreUp, ToreUpAt};
+ghost use Rattle.stage.specs.declared.play.Hitch.TheVariants.{Memory};
 
 use crate::asks::{AskTables, Calls, make_asks};
 use book::{Book, Either};
@@ -9,20 +12,25 @@ use rules::Rule;
 use scripts::run;
 use std::alloc::{AllocError, Global};
 
-/// Why a play does not end well: want of memory, or bulletins that no planner took in, which can be neither dropped nor forgotten.
+/// Why a play does not end well: want of memory, or bulletins that no planner took in, which can be neither dropped nor forgotten. No play ends
+/// by the latter.
 pub enum Hitch {
     Memory,
     Unspent(Option<Bulletin>, Option<Bulletin>),
 }
 
 impl From<AllocError> for Hitch {
+    ghost from_gives = { λ _ hitch. hitch ≡ Memory };
+
     fn from(_error: AllocError) -> Hitch {
         Hitch::Memory
     }
 }
 
 /// The bulletin that came back, if it was not taken in.
-fn unspent(answer: Result<(), Returned>) -> Option<Bulletin> {
+fn unspent(answer: Result<(), Returned>) -> Option<Bulletin>
+    ensures { result ≡ back answer }
+{
     match answer {
         Ok(()) => None,
         Err(
@@ -35,7 +43,9 @@ fn unspent(answer: Result<(), Returned>) -> Option<Bulletin> {
 }
 
 /// Tears up the bulletin of a slot at a planner, and gives back what the planner does not take in.
-fn tear_up_at<B: Book, R>(planner: &mut Planner<B, R>, held: Option<Bulletin>) -> Option<Bulletin> {
+fn tear_up_at<B: Book, R>(planner: &mut Planner<B, R>, held: Option<Bulletin>) -> Option<Bulletin>
+    ensures { ToreUpAt planner.old planner.new held result }
+{
     match held {
         None => None,
         Some(bulletin) => unspent(planner.tear_up(bulletin)),
@@ -43,7 +53,9 @@ fn tear_up_at<B: Book, R>(planner: &mut Planner<B, R>, held: Option<Bulletin>) -
 }
 
 /// Tears up the bulletin of a slot at whichever planner takes it in.
-fn tear_up<B: Book, R>(planners: &mut [Planner<B, R>], held: Option<Bulletin>) -> Option<Bulletin> {
+fn tear_up<B: Book, R>(planners: &mut [Planner<B, R>], held: Option<Bulletin>) -> Option<Bulletin>
+    ensures { ToreUp planners.old planners.new held result }
+{
     let mut left = held;
     for planner in planners.iter_mut() {
         left = tear_up_at(planner, left);
@@ -52,7 +64,9 @@ fn tear_up<B: Book, R>(planners: &mut [Planner<B, R>], held: Option<Bulletin>) -
 }
 
 /// Fails with the bulletins that are left, if there are any.
-fn none_left(first: Option<Bulletin>, second: Option<Bulletin>) -> Result<(), Hitch> {
+fn none_left(first: Option<Bulletin>, second: Option<Bulletin>) -> Result<(), Hitch>
+    ensures { first ≡ None → second ≡ None → result ≡ Ok tt }
+{
     match (first, second) {
         (None, None) => Ok(()),
         (first, second) => Err(Hitch::Unspent(first, second)),
@@ -66,7 +80,8 @@ fn play<B: Book, R: Rule>(
     tables: &mut AskTables,
     calls: &mut Calls,
 ) -> Result<(), Hitch>
-    ensures { (calls.new.rows ≡ calls.old.rows) × (calls.new.slots ≡ calls.old.slots) × (calls.new.mark ≡ calls.old.mark) }
+    ensures kept { (calls.new.rows ≡ calls.old.rows) × (calls.new.slots ≡ calls.old.slots) × (calls.new.mark ≡ calls.old.mark) }
+    ensures spent { Balanced planners.old (None ∷ None ∷ []) → result ≡ Ok tt }
 {
     let mut bulletins = [None, None];
     run(
@@ -91,7 +106,9 @@ fn new_planners<A: Book + Drop, B: Book + Drop, R: Rule + Copy>(
     other: B,
     rule: R,
     calls: &Calls,
-) -> Result<Vec<Planner<Either<A, B>, R>>, AllocError> {
+) -> Result<Vec<Planner<Either<A, B>, R>>, AllocError>
+    ensures { IfOk result (λ planners. Balanced planners.items (None ∷ None ∷ [])) }
+{
     let mut planners = Vec::new(heap);
     planners.push(Planner::new(Either::Left(one), rule, calls.mark))?;
     planners.push(Planner::new(Either::Right(other), rule, calls.other_mark))?;
@@ -107,7 +124,8 @@ pub fn play_two<A: Book + Drop, B: Book + Drop, R: Rule + Copy>(
     rule: R,
     calls: &mut Calls,
 ) -> Result<(), Hitch>
-    ensures { (calls.new.rows ≡ calls.old.rows) × (calls.new.slots ≡ calls.old.slots) × (calls.new.mark ≡ calls.old.mark) }
+    ensures kept { (calls.new.rows ≡ calls.old.rows) × (calls.new.slots ≡ calls.old.slots) × (calls.new.mark ≡ calls.old.mark) }
+    ensures spent { IfErr result (λ hitch. hitch ≡ Memory) }
 {
     let mut tables = AskTables::new(heap, calls.rows, calls.slots)?;
     let mut planners = new_planners(heap, one, other, rule, calls)?;

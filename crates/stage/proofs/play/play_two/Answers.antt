@@ -1,0 +1,9 @@
+use Rattle.std.proofs.Common.{◌≡◌, [], ◌∷◌, None, Ok, sym, subst, arith}
+use Rattle.scripts.specs.Balances.{Balanced}
+use Rattle.stage.proofs.play.play_two.Goals as goal
+
+pub returns-clause-spent : goal.returns-clause-spent
+returns-clause-spent g c =
+    let ok : c.play.result ≡ Ok tt =
+    c.play.ensures.spent (subst (λ ps. Balanced ps (None ∷ None ∷ [])) (sym c.as_mut_slice.ensures.value) c.in_ok-planners.ensures) in
+    grind (arith, ok)
