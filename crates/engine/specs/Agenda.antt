@@ -1,5 +1,5 @@
 -- The queue of the search, and the row that it settles next.
-use Rattle.std.specs.Prelude.{◌≡◌, ℕ, ◌<◌, Bool, true, false, not, ◌&&◌, List, length, get_or, take, Some, None, Ok, Err, Option, Result, ◌==◌, slice_index_or, slice_set}
+use Rattle.std.specs.Prelude.{◌≡◌, ℕ, ◌<◌, Bool, true, false, not, ◌&&◌, List, length, take, Some, None, Ok, Err, Option, Result, ◌==◌, slice_index_or, slice_set}
 use Rattle.std.specs.List.{ContainsAt as Has, AllByRecursion}
 use Rattle.model.specs.declared.enquiry.Enquiry.{Enquiry}
 use Rattle.model.specs.declared.refusal.Refusal.{Refusal}
@@ -27,7 +27,7 @@ queued (Some m) l = not m.settled && (m.second == l.second && m.legs == l.legs)
 -- the entry's place is labelled, and its label is not after the entry
 pub record Known (rows : Rows) (e : Entry) : Type 0 where
   pub label : Label
-  pub here : get_or rows e.place None ≡ Some label
+  pub here : slice_index_or rows e.place None ≡ Some label
   pub not_after : Upto2 label.second label.legs e.second e.legs
 
 -- every row that is labelled and not settled has its label's entry in the queue, and no entry of a place is before its label

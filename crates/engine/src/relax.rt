@@ -1,6 +1,6 @@
 //! Arcs relaxed: a place's label offers one to the place at the end of each arc.
 ghost use Rattle.std.specs.Prelude.{◌≡◌, ℕ, ◌+◌, ◌-◌, ◌*◌, ◌^◌, ◌<◌, ◌≤◌, Bool, true, false, length, get_or, None, slice_index_or};
-ghost use Rattle.labels.specs.Table.{offer as offer-of, relax_below};
+ghost use Rattle.labels.specs.Table.{offer as offer_of, relax_below};
 ghost use Rattle.model.specs.Trips.{world};
 ghost use Rattle.model.specs.declared.network.Arc.{Arc as ArcOf};
 ghost use Rattle.network.specs.Sound.{Leaving};
@@ -40,11 +40,11 @@ fn offer<B: Book, R: Rule>(
     i: usize,
 ) -> Option<Offer>
     requires size { (i < length arcs.now) × ((length arcs.now ≤ 8192) × (label.legs < 2 ^ 31)) }
-    requires leaves { (d : ArcOf) → (get_or arcs.now i d).tail ≡ from.stop }
+    requires leaves { (d : ArcOf) → (slice_index_or arcs.now i d).tail ≡ from.stop }
     requires state { from.state < states }
     requires rows { (states ≡ (R.Rule.automaton rule.now).states) × ((Room arcs.now states (length labels.now)) × (length labels.now < 2 ^ 32)) }
     requires topped { Topped labels.now label }
-    ensures { Useful labels.now states (offer-of (world arcs.now (B.Book.answer book.now) (R.Rule.automaton rule.now)) from label i) result }
+    ensures { Useful labels.now states (offer_of (world arcs.now (B.Book.answer book.now) (R.Rule.automaton rule.now)) from label i) result }
 {
     let arc = arcs[i];
     let Some(state) = rule.next(from.state, arc.label) else {

@@ -1,6 +1,6 @@
 //! The search itself.
 ghost use Rattle.std.specs.Prelude.{◌≡◌, ℕ, ◌+◌, ◌*◌, ◌^◌, ◌<◌, ◌≤◌, ◌&&◌, length, Some, ◌==◌, slice_set};
-ghost use Rattle.labels.specs.Table.{settle, turn as turn-of};
+ghost use Rattle.labels.specs.Table.{settle, turn as turn_of};
 ghost use Rattle.model.specs.Trips.{world, place};
 ghost use Rattle.queue.specs.Contents.{contents, capacity};
 ghost use Rattle.labels.specs.Rows.{view, place_of, relaxed_count, Waits};
@@ -32,7 +32,7 @@ fn turn<B: Book, R: Rule>(
     requires agenda { Agenda (slice_set labels.old number (Some (settle label))) queue.old }
     requires topped { Topped (slice_set labels.old number (Some (settle label))) label }
     requires room { (length (contents queue.old) ≤ relaxed_count network.arcs.now (R.Rule.automaton rule.now).states labels.old) × (1 + length network.arcs.now * (R.Rule.automaton rule.now).states ≤ capacity queue.old) }
-    ensures table { view (R.Rule.automaton rule.now).states labels.new ≡ turn-of (world network.entry.arcs.now (B.Book.answer book.now) (R.Rule.automaton rule.now)) (place_of (R.Rule.automaton rule.now).states number) label (view (R.Rule.automaton rule.now).states labels.old) }
+    ensures table { view (R.Rule.automaton rule.now).states labels.new ≡ turn_of (world network.entry.arcs.now (B.Book.answer book.now) (R.Rule.automaton rule.now)) (place_of (R.Rule.automaton rule.now).states number) label (view (R.Rule.automaton rule.now).states labels.old) }
     ensures agenda { Agenda labels.new queue.new }
     ensures count { length (contents queue.new) ≤ relaxed_count network.entry.arcs.now (R.Rule.automaton rule.now).states (slice_set labels.old number (Some (settle label))) }
     ensures room { capacity queue.new ≡ capacity queue.old }

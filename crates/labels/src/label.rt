@@ -1,7 +1,7 @@
 //! What is known of a place.
 ghost use Rattle.std.specs.Prelude.{◌≡◌};
-ghost use Rattle.labels.specs.Rows.{improves as improves-on};
-ghost use Rattle.labels.specs.Table.{better as better-than};
+ghost use Rattle.labels.specs.Rows.{improves as improves_on};
+ghost use Rattle.labels.specs.Table.{better as better_than};
 
 use model::Place;
 
@@ -25,7 +25,7 @@ pub struct Offer {
 impl Label {
     /// Whether the label is strictly before another: by the second, then the legs, then the arc and the state of the last leg.
     pub fn is_before(self, other: Label) -> bool
-        ensures { result ≡ better-than self other }
+        ensures { result ≡ better_than self other }
     {
         if self.second != other.second {
             self.second < other.second
@@ -40,7 +40,7 @@ impl Label {
 
     /// Whether the label improves on what a row of the table has.
     pub fn improves(self, row: Option<Label>) -> bool
-        ensures { result ≡ improves-on row self }
+        ensures { result ≡ improves_on row self }
     {
         match row {
             Some(known) => self.is_before(known),
