@@ -1,4 +1,7 @@
 //! One trial.
+ghost use Rattle.std.specs.Prelude.{IfErr};
+ghost use Rattle.random_trials.specs.Endings.{NoneOut};
+
 use crate::failure::Failure;
 use crate::printing::print_difference;
 use book::{Bank, Book};
@@ -34,7 +37,9 @@ fn kind_of(rule: &PlainRule) -> Kind {
     }
 }
 
-fn table_rule(part: &Part) -> Result<TableRule, Failure> {
+fn table_rule(part: &Part) -> Result<TableRule, Failure>
+    ensures { IfErr result NoneOut }
+{
     let Part::Table(states, next, ends) = part else {
         return Err(Failure::Laying);
     };
@@ -44,7 +49,9 @@ fn table_rule(part: &Part) -> Result<TableRule, Failure> {
     }
 }
 
-fn boarding_rule(part: &Part) -> Result<BoardingRule, Failure> {
+fn boarding_rule(part: &Part) -> Result<BoardingRule, Failure>
+    ensures { IfErr result NoneOut }
+{
     let Part::Boardings(most) = part else {
         return Err(Failure::Laying);
     };
@@ -70,7 +77,9 @@ fn play_by_rule<A: Book + Drop, B: Book + Drop>(
     other: B,
     rule: &PlainRule,
     calls: &mut Calls,
-) -> Result<(), Failure> {
+) -> Result<(), Failure>
+    ensures { IfErr result NoneOut }
+{
     let first = &rule.first;
     let second = &rule.second;
     match kind_of(rule) {
@@ -105,7 +114,9 @@ fn play_in_town(
     town: &Town,
     rule: &PlainRule,
     calls: &mut Calls,
-) -> Result<(), Failure> {
+) -> Result<(), Failure>
+    ensures { IfErr result NoneOut }
+{
     let mut network = Network::empty();
     if network.lay(town.stops, town.arcs.as_slice()).is_err() {
         return Err(Failure::Laying);
@@ -129,7 +140,9 @@ fn report(
     town: &Town,
     rule: &PlainRule,
     calls: &Calls,
-) -> Result<(), Failure> {
+) -> Result<(), Failure>
+    ensures { IfErr result NoneOut }
+{
     let heap = rt.alloc();
     match judge_calls(heap, counts, town, rule, calls)? {
         None => Ok(()),
@@ -141,7 +154,9 @@ fn report(
 }
 
 /// Draws a trial from a seed, plays it and judges it.
-pub fn make_trial(rt: &HostRuntime, seed: u64, counts: &mut Counts) -> Result<(), Failure> {
+pub fn make_trial(rt: &HostRuntime, seed: u64, counts: &mut Counts) -> Result<(), Failure>
+    ensures { IfErr result NoneOut }
+{
     let heap = rt.alloc();
     let mut dice = Dice::new(seed);
     let town = draw_town(heap, &mut dice)?;

@@ -1,4 +1,9 @@
 //! The network, the two planners and the run.
+ghost use Rattle.std.specs.Prelude.{◌≡◌, [], ◌∷◌, None, Ok, IfOk, IfErr};
+ghost use Rattle.scripts.specs.Scripts.{back};
+ghost use Rattle.scripts.specs.Balances.{Balanced, ToreUp, ToreUpAt};
+ghost use Rattle.trials.specs.Endings.{NoneOut};
+
 use crate::failure::Failure;
 use crate::printing::print_script;
 use crate::script::new_script;
@@ -48,7 +53,9 @@ impl AskTables {
 }
 
 /// The bulletin that came back, if it was not taken in.
-fn unspent(answer: Result<(), Returned>) -> Option<Bulletin> {
+fn unspent(answer: Result<(), Returned>) -> Option<Bulletin>
+    ensures { result ≡ back answer }
+{
     match answer {
         Ok(()) => None,
         Err(
@@ -61,7 +68,9 @@ fn unspent(answer: Result<(), Returned>) -> Option<Bulletin> {
 }
 
 /// Tears up the bulletin of a slot at a planner, and gives back what the planner does not take in.
-fn tear_up_at<B: Book, R>(planner: &mut Planner<B, R>, held: Option<Bulletin>) -> Option<Bulletin> {
+fn tear_up_at<B: Book, R>(planner: &mut Planner<B, R>, held: Option<Bulletin>) -> Option<Bulletin>
+    ensures { ToreUpAt planner.old planner.new held result }
+{
     match held {
         None => None,
         Some(bulletin) => unspent(planner.tear_up(bulletin)),
@@ -69,7 +78,9 @@ fn tear_up_at<B: Book, R>(planner: &mut Planner<B, R>, held: Option<Bulletin>) -
 }
 
 /// Tears up the bulletin of a slot at whichever planner takes it in.
-fn tear_up<B: Book, R>(planners: &mut [Planner<B, R>], held: Option<Bulletin>) -> Option<Bulletin> {
+fn tear_up<B: Book, R>(planners: &mut [Planner<B, R>], held: Option<Bulletin>) -> Option<Bulletin>
+    ensures { ToreUp planners.old planners.new held result }
+{
     let mut left = held;
     for planner in planners.iter_mut() {
         left = tear_up_at(planner, left);
@@ -78,7 +89,9 @@ fn tear_up<B: Book, R>(planners: &mut [Planner<B, R>], held: Option<Bulletin>) -
 }
 
 /// Fails with the bulletins that are left, if there are any.
-fn none_left(first: Option<Bulletin>, second: Option<Bulletin>) -> Result<(), Failure> {
+fn none_left(first: Option<Bulletin>, second: Option<Bulletin>) -> Result<(), Failure>
+    ensures { first ≡ None → second ≡ None → result ≡ Ok tt }
+{
     match (first, second) {
         (None, None) => Ok(()),
         (first, second) => Err(Failure::Unspent(first, second)),
@@ -91,7 +104,9 @@ fn play<B: Book, R: Rule>(
     planners: &mut [Planner<B, R>],
     tables: &mut AskTables,
     script: &mut [Step],
-) -> Result<(), Failure> {
+) -> Result<(), Failure>
+    ensures { Balanced planners.old (None ∷ None ∷ []) → result ≡ Ok tt }
+{
     let mut bulletins = [None, None];
     run(
         network,
@@ -113,7 +128,9 @@ fn new_planners<A: Book + Drop, B: Book + Drop>(
     first: A,
     second: B,
     rule: BoardingRule,
-) -> Result<Vec<Planner<Either<A, B>, BoardingRule>>, AllocError> {
+) -> Result<Vec<Planner<Either<A, B>, BoardingRule>>, AllocError>
+    ensures { IfOk result (λ planners. Balanced planners.items (None ∷ None ∷ [])) }
+{
     let mut planners = Vec::new(heap);
     planners.push(Planner::new(Either::Left(first), rule, FIRST_MARK))?;
     planners.push(Planner::new(Either::Right(second), rule, SECOND_MARK))?;
@@ -126,7 +143,9 @@ fn play_and_print<A: Book + Drop, B: Book + Drop>(
     network: Network,
     first: A,
     second: B,
-) -> Result<(), Failure> {
+) -> Result<(), Failure>
+    ensures { IfErr result NoneOut }
+{
     let mut tables = AskTables::new(rt.alloc())?;
     let mut script = new_script(rt.alloc())?;
     let Ok(rule) = BoardingRule::new(BOARDINGS) else {
@@ -144,7 +163,9 @@ fn play_and_print<A: Book + Drop, B: Book + Drop>(
 }
 
 /// Lays the network and both books, runs the script and prints it.
-pub fn trial(rt: &HostRuntime) -> Result<(), Failure> {
+pub fn trial(rt: &HostRuntime) -> Result<(), Failure>
+    ensures { IfErr result NoneOut }
+{
     let tables = Tables::new();
     let mut network = Network::empty();
     if lay_network(&mut network, &tables).is_err() {
