@@ -38,7 +38,7 @@ pub enum Ending {
 
 impl Failure {
     /// The failure without bulletins, of which it holds none.
-    pub fn ending(self) -> Ending
+    pub(crate) fn ending(self) -> Ending
         requires { NoneOut self }
     {
         match self {
