@@ -85,7 +85,7 @@ def own_names():
             if h:
                 for n in [h.group(1)] + h.group(2).split():
                     rest = line.split(":", 1)[1]
-                    (types if n[0].isupper() and re.search(r"Type 0\s*$|Type 0 where", line) else words).add(n)
+                    (types if n[0].isupper() and re.search(r"Type [01]\s*$|Type [01] where", line) else words).add(n)
             for n in LET.findall(line):
                 words.add(n)
             for group in BOUND.findall(line):
@@ -94,9 +94,12 @@ def own_names():
     for p in files(".rt"):
         for m in USE.finditer(read(p)):
             path = m.group(1).split(".")
-            if not (path[0] == "Rattle" and len(path) > 1 and path[1] in own):
-                for item in m.group(2).split(","):
-                    fromlib[item.strip().split(" as ")[0]].add(p)
+            for item in m.group(2).split(","):
+                name, _, alias = item.strip().partition(" as ")
+                if not (path[0] == "Rattle" and len(path) > 1 and path[1] in own):
+                    fromlib[name].add(p)
+                if alias and "ghost use" in m.group(0):
+                    words.add(alias.strip("«»"))
     return types, words, made, fromlib
 
 

@@ -2,14 +2,14 @@
 #![tactic(auto)]
 
 ghost use Rattle.std.specs.Prelude.{◌≡◌};
-ghost use Rattle.enquiries.specs.Enquiries.{enquiry as enquiryFormat};
+ghost use Rattle.enquiries.specs.Enquiries.{enquiry as enquiry_format};
 
 use model::{Enquiry, Refusal};
 use wire::{Fault, Reader};
 
 /// The enquiry at a place of the input, and the place after it.
 pub fn enquiry_at(input: &[u8], at: usize) -> Result<(Enquiry, usize), Fault>
-    ensures { result ≡ enquiryFormat.read input.now at }
+    ensures { result ≡ enquiry_format.read input.now at }
 {
     if at > input.len() {
         return Err(Fault {

@@ -6,7 +6,7 @@ use Rattle.model.specs.declared.enquiry.Found.{Found}
 use Rattle.model.specs.declared.refusal.Refusal.{Refusal}
 use Rattle.model.specs.Trips.{World, Leg, place}
 use Rattle.model.specs.Asking.{refusal_of, TieRule, Answered, Outcome, Asked}
-use Rattle.model.specs.Claims.{Answered-alike, Asked-is-one}
+use Rattle.model.specs.Claims.{AnsweredAlike, AskedIsOne}
 use Rattle.model.proofs.Options.{some_is, not_ok}
 use Rattle.model.proofs.Unique.{answer_is_one}
 
@@ -81,7 +81,7 @@ answered_of {stops = stops} {count = count} {w = w} {e = e} {labels = labels} {s
     go None h = (a.past_tests h).answered found refl
     go (Some f) h = absurd (not_ok found f (a.refused_by_tests f h).0)
 
-pub answered_alike : Answered-alike
+pub answered_alike : AnsweredAlike
 answered_alike w e L Q M P stops count stops₂ count₂ labels labels' slots slots' slip slip' labels₂ labels₂' slots₂ slots₂' slip₂ slip₂' found found₂ a b =
     let x : Answered w e slip slip' found = answered_of a in
     let y : Answered w e slip₂ slip₂' found₂ = answered_of b in
@@ -89,7 +89,7 @@ answered_alike w e L Q M P stops count stops₂ count₂ labels labels' slots sl
     let js : x.legs ≡ y.legs = legs_are_one w e x.legs y.legs x.tie_rule y.tie_rule in
     (f, taken w e x ∙ js ∙ sym (taken w e y) ∙ ap (λ (z : Found). take z.legs slip₂') (sym f))
 
-pub asked_is_one : Asked-is-one
+pub asked_is_one : AskedIsOne
 asked_is_one w e L Q M P stops count labels labels' slots slots' slip slip' labels₂ labels₂' slots₂ slots₂' slip₂ slip₂' result result₂ nl nq ns a b =
     go (refusal_of stops count w e (length labels) (length slots)) refl
   where

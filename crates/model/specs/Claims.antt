@@ -60,8 +60,8 @@ JourneyIsTrip =
     (w : World) (o : Place) (t : ℕ) (q : Place) (js : List Leg) (a : ℕ) → Journey w o t js q → First w o t q a → Trip w o t js q a
 
 -- two asks of one enquiry in one world that are both answered give the same arrival, the same number of legs and the same legs
-abbrev pub Answered-alike : Type 1
-Answered-alike =
+abbrev pub AnsweredAlike : Type 1
+AnsweredAlike =
     (w : World) (e : Enquiry) (L Q M P : Type 0) (stops count stops₂ count₂ : ℕ) (labels labels' : List L) (slots slots' : List Q) (slip slip' : List Leg)
     (labels₂ labels₂' : List M) (slots₂ slots₂' : List P) (slip₂ slip₂' : List Leg) (found found₂ : Found)
     → Asked stops count w e labels labels' slots slots' slip slip' (Ok found)
@@ -69,8 +69,8 @@ Answered-alike =
     → (found ≡ found₂) × (take found.legs slip' ≡ take found.legs slip₂')
 
 -- asks alike in world, enquiry and sizes of the tables have one result; alike in the slip too, they leave one slip
-abbrev pub Asked-is-one : Type 1
-Asked-is-one =
+abbrev pub AskedIsOne : Type 1
+AskedIsOne =
     (w : World) (e : Enquiry) (L Q M P : Type 0) (stops count : ℕ) (labels labels' : List L) (slots slots' : List Q) (slip slip' : List Leg)
     (labels₂ labels₂' : List M) (slots₂ slots₂' : List P) (slip₂ slip₂' : List Leg) (result result₂ : Result Found Refusal)
     → length labels ≡ length labels₂ → length slots ≡ length slots₂ → length slip ≡ length slip₂

@@ -1,6 +1,6 @@
 //! One step of a rule file.
 ghost use Rattle.std.specs.Prelude.{◌≡◌};
-ghost use Rattle.formats.specs.RuleFile.{any_step, rises as follows, step as «a-step»};
+ghost use Rattle.formats.specs.RuleFile.{any_step, rises as follows, step as a_step};
 ghost use Rattle.wire.specs.Readers.{Reads};
 
 use formats::RuleStep;
@@ -38,7 +38,7 @@ pub(crate) fn read_step(
     states: u32,
     before: Option<RuleStep>,
 ) -> Result<RuleStep, Fault>
-    ensures { Reads («a-step» states before).read reader.old reader.new result }
+    ensures { Reads (a_step states before).read reader.old reader.new result }
 {
     let at = reader.place();
     let step = read_any(reader, states)?;
