@@ -4,7 +4,7 @@ ghost use Rattle.meanings.specs.Spans.{service_rows, most_services, AllFit, Each
 ghost use Rattle.meanings.specs.Timetables.{sooner, least, caught, arrivals, earliest, timetabled, most_connections, Rising, Forward, Timely};
 ghost use Rattle.meanings.proofs.Timetables.{timetabled_lawful};
 ghost use Rattle.books.specs.Faults.{timetables_fault, verdict};
-ghost use Rattle.books.specs.Departing.{Departing, Departed, arrived_by};
+ghost use Rattle.books.specs.Departing.{Departing, Departed};
 
 use crate::fault::BookFault;
 use crate::rows::{lists_fault, rows};
@@ -71,28 +71,12 @@ fn sooner(arrival: u32, best: Option<u32>) -> Option<u32>
     }
 }
 
-/// Whether there is an arrival, and it is no later than a departure.
-fn arrived_by(arrival: Option<u32>, departure: u32) -> bool
-    ensures { result ≡ arrived_by arrival departure }
-{
-    match arrival {
-        None => false,
-        Some(second) => second <= departure,
-    }
-}
-
-/// The least arrival of a list of connections. No connection that departs at or after the best arrival so far can arrive before it, and
-/// departures never fall, so the look through the list ends at the first such connection.
+/// The least arrival of a list of connections.
 fn least_arrival(list: &[Connection]) -> Option<u32>
-    requires rising { Rising list.now }
-    requires forward { Forward list.now }
     ensures { result ≡ least (arrivals list.now) }
 {
     let mut best = None;
     for connection in list {
-        if arrived_by(best, connection.departure) {
-            return best;
-        }
         best = sooner(connection.arrival, best);
     }
     best
@@ -100,8 +84,7 @@ fn least_arrival(list: &[Connection]) -> Option<u32>
 
 /// The least arrival of the connections that depart at or after the coming; none first where the coming is after the last departure.
 fn earliest(list: &[Connection], coming: u32) -> Option<u32>
-    requires rising { Rising list.now }
-    requires forward { Forward list.now }
+    requires { Rising list.now }
     ensures { result ≡ earliest list.now coming }
 {
     if departed(list, coming) {

@@ -2,5 +2,4 @@ pub mod Agendas
 pub mod Grounds
 pub mod Unserved
 pub mod Passed
-pub mod Tops
 pub mod Ranks

@@ -7,13 +7,12 @@ use Rattle.model.specs.Asking.{refusal_of, rows_needed}
 use Rattle.model.specs.declared.network.Place.{Place}
 use Rattle.model.specs.Trips.{World, place, Upto2}
 use Rattle.labels.specs.declared.label.Label.{Label}
-use Rattle.labels.specs.declared.label.Offer.{Offer}
 use Rattle.labels.specs.Table.{Table, Search, Least, Finished, Unmet, Tied, settle}
 use Rattle.queue.specs.declared.queue.Queue.{Queue}
 use Rattle.queue.specs.Contents.{contents, capacity, Ready}
 use Rattle.engine.specs.declared.entry.Entry.{Entry}
 use Rattle.engine.specs.Before.{entry_before}
-use Rattle.labels.specs.Rows.{Rows, view, row_of, improves, Waits, Foremost}
+use Rattle.labels.specs.Rows.{Rows, view, Waits, Foremost}
 
 -- the entry of a row's label
 abbrev pub entry : ℕ → Label → Entry
@@ -35,15 +34,6 @@ pub record Agenda (rows : Rows) (q : Queue Entry) : Type 0 where
   pub ready : Ready entry_before q
   pub waiting : (r : ℕ) (l : Label) → Waits rows r l → Has (contents q) (entry r l)
   pub known : AllByRecursion (Known rows) (contents q)
-
--- no settled row has a label after this one, by the second, then the legs
-abbrev pub Topped : Rows → Label → Type 0
-Topped rows l = (r : ℕ) (m : Label) → slice_index_or rows r None ≡ Some m → m.settled ≡ true → Upto2 m.second m.legs l.second l.legs
-
--- what is made of an offer: the offer itself, or none where it would not improve on what its row has
-abbrev pub Useful : Rows → ℕ → Option Offer → Option Offer → Type 0
-Useful rows k o None = (f : Offer) → o ≡ Some f → improves (slice_index_or rows (row_of k f.at) None) f.label ≡ false
-Useful rows k o (Some f) = o ≡ Some f
 
 -- the row r, with the label l, is to be settled next, and its entry is out of the queue
 pub record Due (rows : Rows) (q q' : Queue Entry) (r : ℕ) (l : Label) : Type 0 where

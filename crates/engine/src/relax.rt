@@ -1,12 +1,12 @@
 //! Arcs relaxed: a place's label offers one to the place at the end of each arc.
-ghost use Rattle.std.specs.Prelude.{◌≡◌, ℕ, ◌+◌, ◌-◌, ◌*◌, ◌^◌, ◌<◌, ◌≤◌, Bool, true, false, length, get_or, None, slice_index_or};
+ghost use Rattle.std.specs.Prelude.{◌≡◌, ℕ, ◌+◌, ◌-◌, ◌*◌, ◌^◌, ◌<◌, ◌≤◌, Bool, true, false, length, slice_index_or};
 ghost use Rattle.labels.specs.Table.{offer as offer_of, relax_below};
 ghost use Rattle.model.specs.Trips.{world};
 ghost use Rattle.model.specs.declared.network.Arc.{Arc as ArcOf};
 ghost use Rattle.network.specs.Sound.{Leaving};
 ghost use Rattle.queue.specs.Contents.{contents, capacity};
-ghost use Rattle.labels.specs.Rows.{row_of, accepted, view, is_settled, Room};
-ghost use Rattle.engine.specs.Agenda.{Agenda, Topped, Useful, queued};
+ghost use Rattle.labels.specs.Rows.{row_of, accepted, view};
+ghost use Rattle.engine.specs.Agenda.{Agenda, queued};
 
 use crate::entry::Entry;
 use book::Book;
@@ -16,52 +16,31 @@ use network::Network;
 use queue::Queue;
 use rules::Rule;
 
-/// Whether a place is settled.
-fn is_settled(labels: &[Option<Label>], states: u32, at: Place) -> bool
-    requires { (row_of states at < length labels.now) × (length labels.now < 2 ^ 32) }
-    ensures { result ≡ is_settled (slice_index_or labels.now (row_of states at) None) }
-{
-    match labels[at.stop as usize * states as usize + at.state as usize] {
-        Some(label) => label.settled,
-        None => false,
-    }
-}
-
-/// What the arc `i`, which leaves the stop of `from`, offers one there with the label `label`; none where it leads to a place that is settled,
-/// since nothing improves on the label there.
+/// What the arc `i`, which leaves the stop of `from`, offers one there with the label `label`.
 fn offer<B: Book, R: Rule>(
     arcs: &[Arc],
     book: &B,
     rule: &R,
-    labels: &[Option<Label>],
-    states: u32,
     from: Place,
     label: Label,
     i: usize,
 ) -> Option<Offer>
     requires size { (i < length arcs.now) × ((length arcs.now ≤ 8192) × (label.legs < 2 ^ 31)) }
     requires leaves { (d : ArcOf) → (slice_index_or arcs.now i d).tail ≡ from.stop }
-    requires state { from.state < states }
-    requires rows { (states ≡ (R.Rule.automaton rule.now).states) × ((Room arcs.now states (length labels.now)) × (length labels.now < 2 ^ 32)) }
-    requires topped { Topped labels.now label }
-    ensures { Useful labels.now states (offer_of (world arcs.now (B.Book.answer book.now) (R.Rule.automaton rule.now)) from label i) result }
+    ensures { result ≡ offer_of (world arcs.now (B.Book.answer book.now) (R.Rule.automaton rule.now)) from label i }
 {
     let arc = arcs[i];
     let Some(state) = rule.next(from.state, arc.label) else {
         return None;
     };
-    let at = Place {
-        stop: arc.head,
-        state,
-    };
-    if is_settled(labels, states, at) {
-        return None;
-    }
     let Some(arrival) = book.arrival(arc.service, label.second) else {
         return None;
     };
     Some(Offer {
-        at,
+        at: Place {
+            stop: arc.head,
+            state,
+        },
         label: Label {
             second: arrival,
             legs: label.legs + 1,
@@ -127,8 +106,6 @@ pub(crate) fn relax<B: Book, R: Rule>(
 )
     requires size { (length labels.old ≡ network.stops * (R.Rule.automaton rule.now).states) × (label.legs < 2 ^ 31) }
     requires agenda { Agenda labels.old queue.old }
-    requires topped { Topped labels.old label }
-    requires state { from.state < (R.Rule.automaton rule.now).states }
     requires range { Leaving network.arcs.now from.stop (record { first = low; «end» = high }) }
     requires room { length (contents queue.old) + (high - low) ≤ capacity queue.old }
     ensures count { length (contents queue.new) ≤ length (contents queue.old) + (high - low) }
@@ -139,7 +116,7 @@ pub(crate) fn relax<B: Book, R: Rule>(
     let states = rule.states();
     let arcs = network.arcs();
     for i in low..high {
-        if let Some(made) = offer(arcs, book, rule, labels, states, from, label, i) {
+        if let Some(made) = offer(arcs, book, rule, from, label, i) {
             accept(labels, queue, states, made);
         }
     }

@@ -4,7 +4,7 @@ ghost use Rattle.labels.specs.Table.{settle, turn as turn_of};
 ghost use Rattle.model.specs.Trips.{world, place};
 ghost use Rattle.queue.specs.Contents.{contents, capacity};
 ghost use Rattle.labels.specs.Rows.{view, place_of, relaxed_count, Waits};
-ghost use Rattle.engine.specs.Agenda.{Agenda, Ended, Searched, Topped};
+ghost use Rattle.engine.specs.Agenda.{Agenda, Ended, Searched};
 
 use crate::begin::begin;
 use crate::entry::Entry;
@@ -30,7 +30,6 @@ fn turn<B: Book, R: Rule>(
 )
     requires size { (length labels.old ≡ network.stops * (R.Rule.automaton rule.now).states) × ((Waits labels.old number label) × (label.legs < 2 ^ 31)) }
     requires agenda { Agenda (slice_set labels.old number (Some (settle label))) queue.old }
-    requires topped { Topped (slice_set labels.old number (Some (settle label))) label }
     requires room { (length (contents queue.old) ≤ relaxed_count network.arcs.now (R.Rule.automaton rule.now).states labels.old) × (1 + length network.arcs.now * (R.Rule.automaton rule.now).states ≤ capacity queue.old) }
     ensures table { view (R.Rule.automaton rule.now).states labels.new ≡ turn_of (world network.entry.arcs.now (B.Book.answer book.now) (R.Rule.automaton rule.now)) (place_of (R.Rule.automaton rule.now).states number) label (view (R.Rule.automaton rule.now).states labels.old) }
     ensures agenda { Agenda labels.new queue.new }

@@ -1,15 +1,14 @@
 -- The loop relaxes one arc after the other; the arcs before and behind the range offer nothing.
-use Rattle.std.proofs.Common.{◌≡◌, ℕ, ◌+◌, ◌-◌, ◌*◌, ◌<◌, ◌≤◌, List, length, get_or, None, sym, refl, ap, ◌∙◌, subst, subst₂, arith}
+use Rattle.std.proofs.Common.{◌≡◌, ℕ, ◌+◌, ◌-◌, ◌*◌, ◌<◌, ◌≤◌, List, length, sym, refl, ap, ◌∙◌, subst, subst₂, arith}
 use Rattle.model.specs.declared.network.Arc.{Arc}
 use Rattle.model.specs.Trips.{World, world}
-use Rattle.labels.specs.Table.{offer, relax_below}
+use Rattle.labels.specs.Table.{relax_below}
 use Rattle.labels.specs.Rows.{Rows, view, row_of, accepted, Room}
 use Rattle.labels.proofs.Tables.{offer_rides}
-use Rattle.labels.proofs.Relaxing.{relax_before, relax_behind, offer_room, relaxed_some}
+use Rattle.labels.proofs.Relaxing.{relax_before, relax_behind, offer_room, relaxed_none, relaxed_some}
 use Rattle.queue.specs.Contents.{contents, capacity}
-use Rattle.engine.specs.Agenda.{Agenda, Topped, Useful}
+use Rattle.engine.specs.Agenda.{Agenda}
 use Rattle.engine.proofs.Grounds.{among_of, room_of, rows_few}
-use Rattle.engine.proofs.Tops.{relaxed_idle, topped_accepted}
 use Rattle.engine.proofs.relax.relax.Goals as goal
 use Rattle.engine.proofs.relax.relax.Goals.{in-Some, in_default}
 
@@ -22,30 +21,7 @@ loop-i-init g c =
           (view (g.R.Rule.automaton c.args.rule.now).states c.args.labels.now),
       omega arith,
       refl,
-      c.requires.topped,
     )
-
-pub offer-requires : goal.offer-requires
-offer-requires g c =
-    let k : ℕ = (g.R.Rule.automaton c.args.rule.now).states in
-    let law = g.R.Rule.lawful c.args.rule.now in
-    let n : length c.loop-i.labels ≡ length c.args.labels.now = c.loop-i.auto.labels in
-    let size : length c.args.labels.now ≡ c.args.network.stops * k = c.requires.size.0 in
-    let few : length c.args.labels.now ≤ 66560 = rows_few c.args.network.stops k (length c.args.labels.now) c.args.network.counted.0.1 law.few size in
-    let room : Room c.arcs-arcs.result.now k (length c.loop-i.labels)
-    = room_of c.args.network.arcs.now c.arcs-arcs.result.now c.args.network.stops k (length c.loop-i.labels) c.arcs-arcs.ensures c.args.network.fit (n ∙ size) in
-    let same : c.arcs-arcs.result.now ≡ c.args.network.arcs.now = c.arcs-arcs.ensures in
-    let within : c.loop-i.i < length c.args.network.arcs.now = omega (arith, c.requires.range.within, c.loop-i-test.true) in
-    record {
-      size = (
-        subst (λ (xs : List Arc). c.loop-i.i < length xs) (sym same) within,
-        (subst (λ (xs : List Arc). length xs ≤ 8192) (sym same) c.args.network.counted.1, c.requires.size.1),
-      );
-      leaves = λ d. subst (λ (xs : List Arc). (get_or xs c.loop-i.i d).tail ≡ c.args.from.stop) (sym same) (c.requires.range.leave c.loop-i.i d c.loop-i.auto.i c.loop-i-test.true);
-      state = subst (λ (z : ℕ). c.args.from.state < z) (sym c.states-states.ensures) c.requires.state;
-      rows = (c.states-states.ensures, (subst (λ (z : ℕ). Room c.arcs-arcs.result.now z (length c.loop-i.labels)) (sym c.states-states.ensures) room, omega arith));
-      topped = c.loop-i.invariant.4;
-    }
 
 pub accept-requires : goal.accept-requires
 accept-requires g c =
@@ -58,7 +34,7 @@ accept-requires g c =
     let few : length c.args.labels.now ≤ 66560 = rows_few c.args.network.stops k (length c.args.labels.now) c.args.network.counted.0.1 law.few size in
     let room : Room c.arcs-arcs.result.now k (length c.args.labels.now)
     = room_of c.args.network.arcs.now c.arcs-arcs.result.now c.args.network.stops k (length c.args.labels.now) c.arcs-arcs.ensures c.args.network.fit size in
-    let y = offer_room W c.args.from c.args.label c.loop-i.i (length c.args.labels.now) c.in-Some.made law.closed room c.in-Some.ensures in
+    let y = offer_room W c.args.from c.args.label c.loop-i.i (length c.args.labels.now) c.in-Some.made law.closed room (sym c.in-Some.ensures) in
     let p : length (contents c.loop-i.queue) + c.args.low ≤ length (contents c.args.queue.now) + c.loop-i.i = c.loop-i.invariant.2 in
     let q : capacity c.loop-i.queue ≡ capacity c.args.queue.now = c.loop-i.invariant.3 in
     let r : length (contents c.args.queue.now) + (c.args.high - c.args.low) ≤ capacity c.args.queue.now = c.requires.room in
@@ -68,7 +44,7 @@ accept-requires g c =
             (subst (λ (m : ℕ). row_of k c.in-Some.made.at < m) (sym n) y.1),
         omega arith,
       );
-      unsettled = (offer_rides W c.args.from c.args.label c.loop-i.i c.in-Some.made c.in-Some.ensures).settled;
+      unsettled = (offer_rides W c.args.from c.args.label c.loop-i.i c.in-Some.made (sym c.in-Some.ensures)).settled;
       agenda = c.loop-i.invariant.0;
       room = omega arith;
     }
@@ -90,22 +66,17 @@ loop-i-preserved g c =
             ap (λ (rows : Rows). view k rows)
                 (w.labels-is ∙ w.accept.ensures.labels ∙ ap (λ (z : ℕ). accepted z w.in-Some.made c.loop-i.labels) c.states-states.ensures)
                 ∙ relaxed_some W c.args.from c.args.label c.loop-i.i (view k c.args.labels.now) c.loop-i.labels w.in-Some.made
-                (g.R.Rule.lawful c.args.rule.now).closed room c.loop-i.invariant.1 (sym w.in-Some.ensures),
+                (g.R.Rule.lawful c.args.rule.now).closed room c.loop-i.invariant.1 w.in-Some.ensures,
             omega arith,
             ap (λ z. capacity z) w.queue-is ∙ w.accept.ensures.room ∙ c.loop-i.invariant.3,
-            subst (λ (rows : Rows). Topped rows c.args.label) (sym (w.labels-is ∙ w.accept.ensures.labels ∙ ap (λ (z : ℕ). accepted z w.in-Some.made c.loop-i.labels) c.states-states.ensures))
-                (topped_accepted k w.in-Some.made c.loop-i.labels c.args.label (offer_rides W c.args.from c.args.label c.loop-i.i w.in-Some.made w.in-Some.ensures).settled
-                (offer_room W c.args.from c.args.label c.loop-i.i (length c.loop-i.labels) w.in-Some.made (g.R.Rule.lawful c.args.rule.now).closed room w.in-Some.ensures).1 c.loop-i.invariant.4),
           )
       | in_default w ↦
           let q : length (contents c.match-offer.queue) ≡ length (contents c.loop-i.queue) = ap (λ z. length (contents z)) w.queue-is in (
             subst₂ Agenda (sym w.labels-is) (sym w.queue-is) c.loop-i.invariant.0,
             ap (λ (rows : Rows). view k rows) w.labels-is
-                ∙ relaxed_idle W c.args.from c.args.label c.loop-i.i (view k c.args.labels.now) c.loop-i.labels (g.R.Rule.lawful c.args.rule.now).closed room c.loop-i.invariant.1
-                (subst (λ (z : ℕ). Useful c.loop-i.labels z (offer W c.args.from c.args.label c.loop-i.i) None) c.states-states.ensures w.in_default.ensures),
+                ∙ relaxed_none W c.args.from c.args.label c.loop-i.i (view k c.args.labels.now) (view k c.loop-i.labels) c.loop-i.invariant.1 w.in_default.ensures,
             omega arith,
             ap (λ z. capacity z) w.queue-is ∙ c.loop-i.invariant.3,
-            subst (λ (rows : Rows). Topped rows c.args.label) (sym w.labels-is) c.loop-i.invariant.4,
           )
     ]
 

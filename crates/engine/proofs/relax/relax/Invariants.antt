@@ -4,7 +4,7 @@ use Rattle.model.specs.Trips.{world}
 use Rattle.labels.specs.Table.{relax_below}
 use Rattle.labels.specs.Rows.{view}
 use Rattle.queue.specs.Contents.{contents, capacity}
-use Rattle.engine.specs.Agenda.{Agenda, Topped}
+use Rattle.engine.specs.Agenda.{Agenda}
 use Rattle.engine.proofs.relax.relax.Given as goal
 
 abbrev pub invariant-loop-i : goal.invariant-loop-i
@@ -15,4 +15,3 @@ invariant-loop-i g l =
     (view (g.R.Rule.automaton l.rule).states l.initial.labels))
     × (length (contents l.queue) + l.low ≤ length (contents l.initial.queue) + l.i)
     × (capacity l.queue ≡ capacity l.initial.queue)
-    × Topped l.labels l.label

@@ -11,7 +11,6 @@ use Rattle.labels.specs.Rows.{view, place_of, settled_count, relaxed_count}
 use Rattle.labels.proofs.Searching.{begun_legs, begun_unmet, legs_small, settled_most, finished_of, next_search, next_legs, one_more_settled, relaxed_after, unmet_still, least_row, tied_row}
 use Rattle.queue.specs.Contents.{contents, capacity}
 use Rattle.engine.proofs.Grounds.{rows_few}
-use Rattle.engine.proofs.Tops.{topped_next}
 use Rattle.engine.proofs.turns.explore.Goals as goal
 
 pub begin-requires : goal.begin-requires
@@ -75,9 +74,6 @@ pub turn-requires : goal.turn-requires
 turn-requires g c =
     let k : ℕ = (g.R.Rule.automaton c.args.rule.now).states in
     let law = g.R.Rule.lawful c.args.rule.now in
-    let W : World = world c.args.network.arcs.now (g.B.Book.answer c.args.book.now) (g.R.Rule.automaton c.args.rule.now) in
-    let lawful : LawfulWorld W = world_is_lawful c.args.network.arcs.now (g.B.Book.services c.args.book.now) (g.B.Book.answer c.args.book.now) (g.R.Rule.automaton c.args.rule.now)
-    (g.B.Book.lawful c.args.book.now) law in
     let due = c.in-Some.ensures in
     let n : length c.loop-number.labels ≡ length c.args.labels.now = omega arith in
     let size : length c.args.labels.now ≡ c.args.network.stops * k = c.requires.size.0 in
@@ -90,7 +86,6 @@ turn-requires g c =
     record {
       size = (n ∙ size, (due.foremost.waits, legs_small k c.loop-number.labels c.in-Some.number c.in-Some.label law.some small c.loop-number.invariant.1 due.foremost.waits.0));
       agenda = due.agenda;
-      topped = topped_next W lawful (place c.args.start 0) c.args.second k law.some c.loop-number.labels c.in-Some.number c.in-Some.label due.foremost c.loop-number.invariant.0;
       room = (omega arith, omega arith);
     }
 

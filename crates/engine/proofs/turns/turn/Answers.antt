@@ -1,6 +1,5 @@
 -- The row is settled, and `relax` does the rest.
-use Rattle.std.proofs.Common.{ℕ, ◌+◌, ◌-◌, ◌*◌, ◌%◌, ◌<◌, ◌≤◌, length, set, Some, sym, ap, ◌∙◌, subst, arith, length-set}
-use Rattle.std.proofs.lemmas.Nat.{mod_below}
+use Rattle.std.proofs.Common.{ℕ, ◌+◌, ◌-◌, ◌*◌, ◌≤◌, length, set, Some, ap, ◌∙◌, arith, length-set}
 use Rattle.model.specs.Trips.{World, world}
 use Rattle.labels.specs.Table.{Table, settle, relax_below}
 use Rattle.labels.specs.Rows.{place_of, view, relaxed_count}
@@ -24,8 +23,6 @@ relax-requires g c =
     record {
       size = (length-set c.args.labels.now c.args.number (Some (settle c.args.label)) ∙ c.requires.size.0, c.requires.size.1.1);
       agenda = c.requires.agenda;
-      topped = c.requires.topped;
-      state = subst (λ (z : ℕ). c.args.number % z < k) (sym c.states-states.ensures) (mod_below c.args.number k (g.R.Rule.lawful c.args.rule.now).some);
       range = c.leaving-range.ensures;
       room = omega arith;
     }

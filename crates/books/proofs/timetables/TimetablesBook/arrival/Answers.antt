@@ -1,15 +1,11 @@
 use Rattle.std.proofs.Common.{sym, ap, ◌∙◌}
 use Rattle.meanings.specs.Timetables.{earliest}
-use Rattle.books.proofs.Departing.{rising_rows, forward_rows, answer_by_rows}
+use Rattle.books.proofs.Departing.{rising_rows, answer_by_rows}
 use Rattle.books.proofs.timetables.TimetablesBook.arrival.Goals as goal
 
 pub earliest-requires : goal.earliest-requires
 earliest-requires c =
-    let b = c.args.self.now in
-    record {
-      rising = rw c.connections.ensures (rising_rows b.connections.now b.spans.now b.rising c.args.service);
-      forward = rw c.connections.ensures (forward_rows b.connections.now b.spans.now b.forward c.args.service);
-    }
+    let b = c.args.self.now in rw c.connections.ensures (rising_rows b.connections.now b.spans.now b.rising c.args.service)
 
 pub returns : goal.returns
 returns c =
