@@ -1,5 +1,6 @@
 pub mod Clock
 pub mod Refusals
+pub mod Modes
 pub mod Books
 pub mod Rules
 pub mod Trips

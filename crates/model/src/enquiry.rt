@@ -1,7 +1,7 @@
 //! What is asked of a planner, and what it finds.
 
 /// From one stop to another, setting out at a second or later.
-#[derive(Clone, Copy, Drop, PartialEq, Eq)]
+#[derive(Clone, Copy, Debug, Default, Drop, PartialEq, Eq)]
 pub struct Enquiry {
     pub start: u32,
     pub target: u32,
@@ -9,7 +9,7 @@ pub struct Enquiry {
 }
 
 /// The second of arrival of a journey, and the number of its legs.
-#[derive(Clone, Copy, Drop, PartialEq, Eq)]
+#[derive(Clone, Copy, Debug, Default, Drop, PartialEq, Eq)]
 pub struct Found {
     pub arrival: u32,
     pub legs: u32,

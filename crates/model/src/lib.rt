@@ -11,7 +11,7 @@ mod tables;
 
 pub use clock::HORIZON;
 pub use enquiry::{Enquiry, Found};
-pub use label::LABELS;
+pub use label::{LABELS, Mode, NoSuchLabel};
 pub use network::{Arc, Leg, Place};
 pub use refusal::{Cause, Layer, Refusal};
 pub use tables::{Connection, Point, Span};

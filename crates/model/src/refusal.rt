@@ -3,7 +3,7 @@ ghost use Rattle.std.specs.Prelude.{◌≡◌};
 ghost use Rattle.model.specs.Refusals.{number_of, cause_of, layer_of};
 
 /// Why a call is refused.
-#[derive(Clone, Copy, Drop)]
+#[derive(Clone, Copy, Debug, Drop, PartialEq, Eq)]
 pub enum Refusal {
     NoSuchStart = 1,
     NoSuchTarget = 2,
@@ -35,7 +35,7 @@ pub enum Refusal {
 }
 
 /// Whose doing a refusal is.
-#[derive(Clone, Copy, Drop, PartialEq, Eq)]
+#[derive(Clone, Copy, Debug, Drop, PartialEq, Eq)]
 pub enum Cause {
     Passenger,
     RuleWriter,
@@ -45,7 +45,7 @@ pub enum Cause {
 }
 
 /// The part of a file's format that a refusal belongs to.
-#[derive(Clone, Copy, Drop, PartialEq, Eq)]
+#[derive(Clone, Copy, Debug, Drop, PartialEq, Eq)]
 pub enum Layer {
     Number,
     Record,
