@@ -5,7 +5,7 @@ use Rattle.std.proofs.lemmas.Bool.{le-leb}
 use Rattle.model.specs.Rules.{LawfulRule, label_count, leads}
 use Rattle.automata.specs.Words.{Labels, AcceptsJust}
 use Rattle.automata.specs.Boardings.{boards, boardings, boarded, AtMost}
-use Rattle.automata.proofs.Leading.{onward_some}
+use Rattle.model.proofs.Options.{onward_parts}
 
 -- the step that a boarding takes, or another label
 abbrev stepped : ℕ → ℕ → ℕ → Bool → Option ℕ
@@ -33,7 +33,7 @@ module _ (n : ℕ) where
   counts : (s : ℕ) (word : List ℕ) (t : ℕ) → s ≤ n → leads (boarded n).next s word ≡ Some t → Labels word × (t ≡ s + boardings word) × (t ≤ n)
   counts s [] t le h = let e : s ≡ t = cc in (tt, omega arith, omega arith)
   counts s (x ∷ xs) t le h =
-      let p = onward_some ((boarded n).next s x) (λ m. leads (boarded n).next m xs) t h in
+      let p = onward_parts ((boarded n).next s x) (λ m. leads (boarded n).next m xs) t h in
       let q = step_back n s x p.0 (boards x) p.1 in
       let r = counts p.0 xs t q.2 p.2 in
       ((q.0, r.0), omega arith, r.2)

@@ -5,3 +5,5 @@ pub mod Spans
 pub mod Walks
 pub mod Timetables
 pub mod Roads
+pub mod Sounds
+pub mod Lawful

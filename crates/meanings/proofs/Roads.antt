@@ -5,11 +5,12 @@ use Rattle.std.proofs.lemmas.Nat.{le-div}
 use Rattle.std.proofs.lemmas.Bool.{lt-ltb, le-ltb, le-leb, lt-leb, cases_lt}
 use Rattle.std.proofs.lemmas.List.{drop_more, drop_all}
 use Rattle.model.specs.Books.{LawfulBook}
+use Rattle.model.specs.Clock.{horizon}
 use Rattle.model.specs.declared.tables.Point.{Point}
 use Rattle.model.specs.declared.tables.Span.{Span}
 use Rattle.meanings.specs.Answers.{timely}
 use Rattle.meanings.specs.Spans.{most_services, service_rows, Each}
-use Rattle.meanings.specs.Roads.{reached, line, between, passed, ahead, first_of, last_from, by_neighbours, ridden, driven, no_point, Rising, Steady}
+use Rattle.meanings.specs.Roads.{reached, line, between, passed, ahead, first_of, last_from, by_neighbours, ridden, driven, no_point, Rising, Steady, Timely}
 use Rattle.meanings.proofs.Laws.{listed_lawful, timely_fair}
 
 -- a quotient rises with what is divided
@@ -145,13 +146,19 @@ driven_lawful ps spans few rising steady =
 
 -- ---- along the points, one by one
 
-pub first : (ps : List Point) (t : ℕ) → 0 < length ps → Rising ps → Steady ps → (get_or ps 0 no_point).second ≤ t → Ordered (get_or ps 0 no_point) (drop 1 ps) × (ridden ps t ≡ onward (get_or ps 0 no_point) (drop 1 ps) t)
-first [] t some r s h = absurd (omega arith)
-first (x ∷ xs) t some r s h = let o = ordered x xs r s in (o, ridden_after x xs o t h)
+module _ (ps : List Point) (x : Point) (xs : List Point) (parted : ps ≡ x ∷ xs) (rising : Rising ps) (steady : Steady ps) where
+  in_order : Ordered x xs
+  in_order = ordered x xs (subst Rising parted rising) (subst Steady parted steady)
 
-pub unstarted : (ps : List Point) (t : ℕ) → 0 < length ps → Rising ps → Steady ps → t < (get_or ps 0 no_point).second → ridden ps t ≡ t + (get_or ps 0 no_point).travel
-unstarted [] t some r s h = absurd (omega arith)
-unstarted (x ∷ xs) t some r s h = ridden_before x xs (ordered x xs r s) t h
+  pub started : (t : ℕ) → x.second ≤ t → Ordered x xs × (ridden ps t ≡ onward x xs t)
+  started t h = (in_order, ap (λ l. ridden l t) parted ∙ ridden_after x xs in_order t h)
+
+  pub unstarted : (t : ℕ) → t < x.second → ridden ps t ≡ t + x.travel
+  unstarted t h = ap (λ l. ridden l t) parted ∙ ridden_before x xs in_order t h
+
+-- what holds of each point holds of each but the first
+pub timely_after : (ps : List Point) (x : Point) (xs : List Point) → ps ≡ x ∷ xs → Timely ps → (reached x ≤ horizon) × Timely xs
+timely_after ps x xs parted timely = let all = subst Timely parted timely in (all 0 (omega arith), λ j h. all (suc j) (omega arith))
 
 module _ (ps : List Point) (x : Point) (j : ℕ) (inside : j < length ps) where
   pub next : Ordered x (drop j ps) → (x.second < (get_or ps j no_point).second) × (reached x ≤ reached (get_or ps j no_point)) × Ordered (get_or ps j no_point) (drop (j + 1) ps)

@@ -1,9 +1,10 @@
 -- A timetable book is a book, and its answers are least arrivals.
-use Rattle.std.proofs.Common.{◌≡◌, ℕ, zero, suc, ◌+◌, ◌<◌, ◌≤◌, Bool, true, false, cond, leb, List, [], ◌∷◌, ◌++◌, length, get_or, take, drop, Some, None, Option, refl, ap, ◌∙◌, ⊎_elim, arith}
-use Rattle.std.specs.List.{AllByRecursion}
+use Rattle.std.proofs.Common.{◌≡◌, ℕ, zero, suc, min, ◌+◌, ◌<◌, ◌≤◌, Bool, true, false, cond, leb, List, [], ◌∷◌, length, get_or, drop, Some, None, Option, refl, ap, ◌∙◌, ⊎_elim, arith}
+use Rattle.std.specs.List.{AllByRecursion, fold, reduce}
+use Rattle.std.specs.List.Sorted.{IsNonDecreasingBy}
 use Rattle.std.proofs.lemmas.Bool.{le-leb, lt-leb, cases_lt}
 use Rattle.std.proofs.ByRecursion.{All-from_get_or}
-use Rattle.std.proofs.lemmas.List.{map_more, get_or_default}
+use Rattle.std.proofs.lemmas.List.{get_or_default}
 use Rattle.std.proofs.lemmas.List.Sorted.{IsNonDecreasingBy-from_all_adjacent}
 use Rattle.model.specs.Books.{LawfulBook, Fair, Within, NoLater}
 use Rattle.model.specs.Clock.{horizon}
@@ -77,17 +78,18 @@ timetabled_lawful cs spans few forward timely =
     listed_lawful (length spans) (λ s t. earliest (service_rows cs spans s) t) (omega arith)
     (λ s h. earliest_fair (service_rows cs spans s) (All-from_get_or TimelyOne (service_rows cs spans s) no_connection (λ j l. (forward s h j l, timely s h j l))))
 
-sooner_swap : (a b : ℕ) (o : Option ℕ) → sooner a (sooner b o) ≡ sooner b (sooner a o)
-sooner_swap a b None = ap Some (omega arith)
-sooner_swap a b (Some c) = ap Some (omega arith)
+sooner_both : (a b : ℕ) (o : Option ℕ) → sooner (min a b) o ≡ sooner a (sooner b o)
+sooner_both a b None = refl
+sooner_both a b (Some c) = ap Some (omega arith)
 
-least_push : (xs : List ℕ) (a : ℕ) → least (xs ++ a ∷ []) ≡ sooner a (least xs)
-least_push [] a = refl
-least_push (x ∷ xs) a = ap (sooner x) (least_push xs a) ∙ sooner_swap x a (least xs)
+least_fold : (a : ℕ) (xs : List ℕ) → Some (fold min a xs) ≡ sooner a (least xs)
+least_fold a [] = refl
+least_fold a (x ∷ xs) = least_fold (min a x) xs ∙ sooner_both a x (least xs)
 
--- the least arrival so far, with one connection more
-pub least_more : (cs : List Connection) (i : ℕ) (d : Connection) → i < length cs → least (arrivals (take (i + 1) cs)) ≡ sooner (get_or cs i d).arrival (least (arrivals (take i cs)))
-least_more cs i d inside = ap least (map_more (λ c. c.arrival) cs i d inside) ∙ least_push (arrivals (take i cs)) (get_or cs i d).arrival
+-- the least of some seconds, as the library has it
+pub reduce_least : (xs : List ℕ) → reduce min xs ≡ least xs
+reduce_least [] = refl
+reduce_least (x ∷ xs) = least_fold x xs
 
 -- where departures before a place are too early, and those from it on are not, the rows from it on are those that one can take
 pub caught_from : (cs : List Connection) (t i : ℕ) → ((k : ℕ) → k < i → (get_or cs k no_connection).departure < t) → ((k : ℕ) → i ≤ k → k < length cs → t ≤ (get_or cs k no_connection).departure) → i ≤ length cs → caught t cs ≡ drop i cs
@@ -101,8 +103,8 @@ caught_from (c ∷ cs) t (suc i) before after inside =
     rw (lt-leb t c.departure h) (caught_from cs t i (λ k l. before (suc k) (omega arith)) (λ k l m. after (suc k) (omega arith) (omega arith)) (omega arith))
 
 -- departures that do not fall from one connection to the next do not fall at all
-rises : (cs : List Connection) → Rising cs → (i j : ℕ) → i ≤ j → j < length cs → (get_or cs i no_connection).departure ≤ (get_or cs j no_connection).departure
-rises cs up i j le lt = IsNonDecreasingBy-from_all_adjacent (λ (c : Connection). c.departure) cs by_any i j no_connection le lt
+pub never_falls : (cs : List Connection) → Rising cs → IsNonDecreasingBy (λ c. c.departure) cs
+never_falls cs up = IsNonDecreasingBy-from_all_adjacent (λ (c : Connection). c.departure) cs by_any
   where
     by_any : (k : ℕ) (d : Connection) → k + 1 < length cs → (get_or cs k d).departure ≤ (get_or cs (k + 1) d).departure
     by_any k d h =
@@ -111,10 +113,10 @@ rises cs up i j le lt = IsNonDecreasingBy-from_all_adjacent (λ (c : Connection)
 -- what one look at the middle of a list tells
 module _ (cs : List Connection) (up : Rising cs) (t m : ℕ) (inside : m < length cs) where
   pub missed_to : (get_or cs m no_connection).departure < t → (k : ℕ) → k < m + 1 → (get_or cs k no_connection).departure < t
-  missed_to h k l = omega (arith, rises cs up k m (omega arith) inside)
+  missed_to h k l = omega (arith, never_falls cs up k m no_connection (omega arith) inside)
 
   pub caught_on : t ≤ (get_or cs m no_connection).departure → (k : ℕ) → m ≤ k → k < length cs → t ≤ (get_or cs k no_connection).departure
-  caught_on h k le l = omega (arith, rises cs up m k le l)
+  caught_on h k le l = omega (arith, never_falls cs up m k no_connection le l)
 
 -- a second is the least arrival of the connections that depart at or after t: one of them attains it, and none is earlier;
 -- or there is none of those

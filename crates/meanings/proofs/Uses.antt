@@ -1,11 +1,9 @@
 -- The laws of a book, as its users want them: by what an answer is.
-use Rattle.std.proofs.Common.{◌≡◌, ℕ, ◌<◌, ◌≤◌, Some, None, Option, refl, subst, ⊎_elim, arith}
+use Rattle.std.proofs.Common.{◌≡◌, ℕ, ◌<◌, ◌≤◌, Some, None, Option, sym, refl, ◌∙◌, subst, ⊎_elim}
 use Rattle.std.proofs.lemmas.Bool.{cases_lt}
+use Rattle.std.proofs.lemmas.Option.{none-some}
 use Rattle.model.specs.Books.{LawfulBook, Within, NoLater}
 use Rattle.model.specs.Clock.{horizon}
-
-some_none : {a : ℕ} {o : Option ℕ} → o ≡ Some a → o ≡ None → ⊥
-some_none p q = let z : ◌≡◌ {A = ℕ} 0 1 = cc in omega arith
 
 module _ {n : ℕ} {f : ℕ → ℕ → Option ℕ} (book : LawfulBook n f) where
   -- an arrival is no earlier than the coming, and no later than the horizon
@@ -14,7 +12,7 @@ module _ {n : ℕ} {f : ℕ → ℕ → Option ℕ} (book : LawfulBook n f) wher
 
   -- whoever arrives took a service of the book
   pub served : {s t a : ℕ} → f s t ≡ Some a → s < n
-  served {s} {t} e = ⊎_elim (λ h. h) (λ h. absurd (some_none e (book.beyond s t h))) (cases_lt s n)
+  served {s} {t} e = ⊎_elim (λ h. h) (λ h. absurd (none-some _ (sym (book.beyond s t h) ∙ e))) (cases_lt s n)
 
   -- coming earlier, one arrives no later
   pub overtaken : {s t u b : ℕ} → t ≤ u → f s u ≡ Some b → (a : ℕ) × (f s t ≡ Some a) × (a ≤ b)
@@ -30,4 +28,4 @@ module _ {n : ℕ} {f : ℕ → ℕ → Option ℕ} (book : LawfulBook n f) wher
     where
       go : (o : Option ℕ) → f s u ≡ o → f s u ≡ None
       go None p = p
-      go (Some b) p = let q = overtaken h p in absurd (some_none q.1 e)
+      go (Some b) p = let q = overtaken h p in absurd (none-some _ (sym e ∙ q.1))

@@ -3,3 +3,4 @@ pub mod Spans
 pub mod Walks
 pub mod Timetables
 pub mod Roads
+pub mod Faults

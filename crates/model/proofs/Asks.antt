@@ -1,5 +1,6 @@
 -- Asking has one result.
 use Rattle.std.proofs.Common.{◌≡◌, ℕ, ◌<◌, ◌≤◌, List, ◌++◌, length, take, drop, Some, None, Ok, Err, Option, Result, sym, refl, ap, ◌∙◌, inl, inr, arith}
+use Rattle.std.proofs.lemmas.Option.{same_Some}
 use lib.Seq.{take-append_seam}
 use Rattle.model.specs.declared.enquiry.Enquiry.{Enquiry}
 use Rattle.model.specs.declared.enquiry.Found.{Found}
@@ -7,12 +8,12 @@ use Rattle.model.specs.declared.refusal.Refusal.{Refusal}
 use Rattle.model.specs.Trips.{World, Leg, place}
 use Rattle.model.specs.Asking.{refusal_of, TieRule, Answered, Outcome, Asked}
 use Rattle.model.specs.Claims.{AnsweredAlike, AskedIsOne}
-use Rattle.model.proofs.Options.{some_is, not_ok}
+use Rattle.model.proofs.Options.{not_ok}
 use Rattle.model.proofs.Unique.{answer_is_one}
 
 pub legs_are_one : (w : World) (e : Enquiry) (js ks : List Leg) → TieRule w e js → TieRule w e ks → js ≡ ks
 legs_are_one w e js ks a b =
-    some_is js ks (answer_is_one w (place e.start 0) e.second e.target (Some js) (Some ks) a b)
+    same_Some js ks (answer_is_one w (place e.start 0) e.second e.target (Some js) (Some ks) a b)
 
 module _ (w : World) (e : Enquiry) where
   found_is_one : {slip slip' slip₂ slip₂' : List Leg} {f g : Found} → Answered w e slip slip' f → Answered w e slip₂ slip₂' g → f ≡ g

@@ -1,12 +1,13 @@
 -- A trip between places is a trip between stops whose word leads the rule; and which trips suit an enquiry.
 use Rattle.std.proofs.Common.{◌≡◌, ℕ, List, [], ◌∷◌, Some, Option, sym, refl, ap, ◌∙◌, subst}
+use Rattle.std.proofs.lemmas.Option.{same_Some}
 use Rattle.std.specs.List.{slice_get}
 use Rattle.model.specs.declared.enquiry.Enquiry.{Enquiry}
 use Rattle.model.specs.Rules.{onward, leads}
 use Rattle.model.specs.Trips.{World, Arc, Place, place, Leg, Trip, Ends}
 use Rattle.model.specs.Suits.{StopTrip, Suits, label_of, word}
 use Rattle.model.specs.Claims.{TripIsTwo, SuitsIsTrip}
-use Rattle.model.proofs.Options.{some_is, onward_parts}
+use Rattle.model.proofs.Options.{onward_parts}
 
 stops_of : (w : World) {p q : Place} {t a : ℕ} {ls : List Leg} → Trip w p t ls q a → StopTrip w p.stop t ls q.stop a
 stops_of w Trip.stay = StopTrip.stay
@@ -23,7 +24,7 @@ leads_of w (Trip.ride {p = p} {m = m} {l = l} {ls = ls} h r rest) =
 
 both : (w : World) {u v t a : ℕ} {ls : List Leg} → StopTrip w u t ls v a → (s r : ℕ) → leads w.next s (word w.arcs ls) ≡ Some r
     → Trip w (place u s) t ls (place v r) a
-both w (StopTrip.stay {s = u} {t = t}) s r e = subst (λ (z : ℕ). Trip w (place u s) t [] (place u z) t) (some_is s r e) Trip.stay
+both w (StopTrip.stay {s = u} {t = t}) s r e = subst (λ (z : ℕ). Trip w (place u s) t [] (place u z) t) (same_Some s r e) Trip.stay
 both w (StopTrip.ride {l = l} {ls = ls} x n h served rest) s r e =
     let f : ℕ → Option ℕ = λ (k : ℕ). leads w.next k (word w.arcs ls) in
     let y = onward_parts (w.next s x.label) f r (sym (ap (λ (z : Option Arc). onward (w.next s (label_of z)) f) n) ∙ e) in

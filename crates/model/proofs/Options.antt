@@ -1,12 +1,7 @@
 -- Optional values.
 use Rattle.std.proofs.Common.{◌≡◌, ℕ, Some, None, Ok, Err, Option, Result, refl, arith}
+use Rattle.std.proofs.lemmas.Option.{none-some}
 use Rattle.model.specs.Rules.{onward}
-
-pub some_is : {A : Type 0} (x y : A) → ◌≡◌ {A = Option A} (Some x) (Some y) → x ≡ y
-some_is x y e = cc
-
-pub not_none : {A : Type 0} (x : A) → ◌≡◌ {A = Option A} None (Some x) → ⊥
-not_none x e = let z : ◌≡◌ {A = ℕ} 0 1 = cc in omega arith
 
 pub one_some : {A : Type 0} (o : Option A) (x y : A) → o ≡ Some x → o ≡ Some y → x ≡ y
 one_some o x y e f = cc
@@ -16,5 +11,5 @@ not_ok x y e = let z : ◌≡◌ {A = ℕ} 0 1 = cc in omega arith
 
 -- a value is there or not
 pub onward_parts : (x : Option ℕ) (f : ℕ → Option ℕ) (r : ℕ) → onward x f ≡ Some r → (m : ℕ) × (x ≡ Some m) × (f m ≡ Some r)
-onward_parts None f r e = absurd (not_none r e)
+onward_parts None f r e = absurd (none-some r e)
 onward_parts (Some m) f r e = (m, refl, e)

@@ -5,17 +5,17 @@ use Rattle.model.specs.declared.label.Mode.TheVariants.{Foot, Bus, Ship, Rail, C
 use Rattle.model.specs.declared.label.NoSuchLabel.{NoSuchLabel}
 
 -- the label that a mode has on arcs and in files
-abbrev pub label_of : Mode → ℕ
-label_of Foot = 0
-label_of Bus = 1
-label_of Ship = 2
-label_of Rail = 3
-label_of Car = 4
-label_of Link = 5
+abbrev pub mode_label : Mode → ℕ
+mode_label Foot = 0
+mode_label Bus = 1
+mode_label Ship = 2
+mode_label Rail = 3
+mode_label Car = 4
+mode_label Link = 5
 
 -- the mode of that label, or that no mode has it
 abbrev pub Names : ℕ → Result Mode NoSuchLabel → Type 0
-Names label r = MatchResult r (λ mode. label_of mode ≡ label) (λ e. (e.0 ≡ label) × (5 < label))
+Names label r = MatchResult r (λ mode. mode_label mode ≡ label) (λ e. (e.0 ≡ label) × (5 < label))
 
 -- whether a mode is a boarding: bus, ship or rail
 abbrev pub boards : Mode → Bool
