@@ -3,8 +3,8 @@
 
 mod bank;
 mod book;
-mod either;
 mod lent;
+mod sides;
 
 pub use bank::Bank;
 pub use book::Book;

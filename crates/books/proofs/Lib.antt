@@ -1,3 +1,2 @@
 pub mod Departing
-pub mod Faults
-pub mod Sounds
+mod Least

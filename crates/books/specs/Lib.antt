@@ -1,3 +1,2 @@
-pub mod Faults
-pub mod Departing
 pub mod Examples
+pub mod Kinds

@@ -2,14 +2,16 @@
 #![tactic(auto)]
 
 mod examples;
-mod fault;
+mod lists;
 mod roads;
 mod rows;
 mod timetables;
 mod walks;
 
 pub use examples::worked_examples;
-pub use fault::{BookFault, Field};
+pub use lists::Lists;
+pub use meanings::{BookFault, Field};
 pub use roads::Roads;
+pub use rows::Row;
 pub use timetables::Timetables;
 pub use walks::Walks;

@@ -1,72 +1,69 @@
 //! Tables whose rows belong to services, each service having a list of them.
-ghost use Rattle.std.specs.Prelude.{◌≡◌, ◌+◌, ◌≤◌, length, None, Option};
+ghost use Rattle.std.specs.Prelude.{◌≡◌, ◌+◌, ◌≤◌, ℕ, length, None, Option};
 ghost use Rattle.meanings.specs.Spans.{rows as rows_of};
-ghost use Rattle.books.specs.declared.fault.Field.{Field as FieldFault};
-ghost use Rattle.books.specs.Faults.{connection_fault, point_fault, rows_fault, list_fault, lists_fault};
+ghost use Rattle.meanings.specs.Timetables.{most_connections};
+ghost use Rattle.meanings.specs.Roads.{most_points};
+ghost use Rattle.meanings.specs.declared.fault.Field.{Field as FieldFault};
+ghost use Rattle.meanings.specs.Faults.{count_fault, connection_fault, point_fault, rows_fault, list_fault, lists_fault, verdict};
 
-use crate::fault::{BookFault, Field};
-use model::{Connection, HORIZON, Point, Span};
-
-/// The most services of one kind.
-pub(crate) const MOST_SERVICES: usize = 4_096;
+use meanings::{BookFault, Field};
+use model::{Connection, HORIZON, MOST_CONNECTIONS, MOST_POINTS, MOST_SERVICES, Point, Span};
 
 /// A row of a service's list, which is tested against the one before it.
-pub(crate) trait Row: Copy {
-    ghost tested: { Option Self → Self → Option FieldFault };
+pub trait Row: Copy {
+    /// The most rows of one service.
+    const MOST: usize;
+
+    ghost MOST: { ℕ };
 
     /// The number that is at fault in a row that follows another, or is the first.
-    fn test(self, before: Option<Self>) -> Option<Field>
-        ensures { result ≡ tested before self };
+    ghost tested: { Option Self → Self → Option FieldFault };
+
+    /// Refuses a number at fault.
+    fn test(self, before: Option<Self>) -> Result<(), Field>
+        ensures { result ≡ verdict (tested before self) };
 }
 
 impl Row for Connection {
+    const MOST: usize = MOST_CONNECTIONS as usize;
+
+    ghost MOST = { most_connections };
+
     ghost tested = { connection_fault };
 
-    fn test(self, before: Option<Connection>) -> Option<Field>
-        ensures { result ≡ connection_fault before self }
+    fn test(self, before: Option<Connection>) -> Result<(), Field>
+        ensures { result ≡ verdict (connection_fault before self) }
     {
-        let low = match before {
-            None => 0,
-            Some(other) => other.departure,
-        };
+        let low = before.map_or(0, |other| other.departure);
         if self.departure < low || self.departure > HORIZON {
-            Some(Field::Departure)
+            Err(Field::Departure)
         } else if self.arrival < self.departure || self.arrival > HORIZON {
-            Some(Field::Arrival)
+            Err(Field::Arrival)
         } else {
-            None
+            Ok(())
         }
     }
 }
 
-/// A point's arrival, which may be above what 32 bits hold.
-fn reached(point: Point) -> u64
-    ensures { result ≡ point.second + point.travel }
-{
-    point.second as u64 + point.travel as u64
-}
-
 impl Row for Point {
+    const MOST: usize = MOST_POINTS as usize;
+
+    ghost MOST = { most_points };
+
     ghost tested = { point_fault };
 
-    fn test(self, before: Option<Point>) -> Option<Field>
-        ensures { result ≡ point_fault before self }
+    fn test(self, before: Option<Point>) -> Result<(), Field>
+        ensures { result ≡ verdict (point_fault before self) }
     {
-        let rises = match before {
-            None => true,
-            Some(other) => other.second < self.second,
-        };
-        let low = match before {
-            None => 0,
-            Some(other) => reached(other),
-        };
-        let arrival = reached(self);
+        let rises = before.is_none_or(|other| other.second < self.second);
+        let low = before.map_or(0, Point::reached);
+        let arrival = self.reached();
         if !rises || self.second > HORIZON {
-            Some(Field::Departure)
+            Err(Field::Departure)
         } else if arrival < low || arrival > HORIZON as u64 {
-            Some(Field::Arrival)
+            Err(Field::Arrival)
         } else {
-            None
+            Ok(())
         }
     }
 }
@@ -81,46 +78,53 @@ pub(crate) fn rows<T>(table: &[T], span: Span) -> &[T]
     &table[start..end]
 }
 
-/// The first row at fault of a service's list.
-fn rows_fault<R: Row>(service: usize, list: &[R]) -> Option<BookFault>
-    ensures { result ≡ rows_fault R.Row.tested service 0 None list.now }
+/// Refuses too many services.
+pub(crate) fn test_count(services: usize) -> Result<(), BookFault>
+    ensures { result ≡ verdict (count_fault services) }
+{
+    if services > MOST_SERVICES as usize {
+        Err(BookFault::TooManyServices)
+    } else {
+        Ok(())
+    }
+}
+
+/// Refuses the first row at fault of a service's list.
+fn test_rows<R: Row>(service: usize, list: &[R]) -> Result<(), BookFault>
+    ensures { result ≡ verdict (rows_fault R.Row.tested service 0 None list.now) }
 {
     let mut before = None;
     for (place, row) in list.iter().enumerate() {
-        if let Some(field) = row.test(before) {
-            return Some(BookFault::Row(service, place, field));
+        if let Err(field) = row.test(before) {
+            return Err(BookFault::Row(service, place, field));
         }
         before = Some(*row);
     }
-    None
+    Ok(())
 }
 
-/// The first fault of a service's list, of at most `most` rows.
-fn list_fault<R: Row>(most: usize, table: &[R], service: usize, span: Span) -> Option<BookFault>
-    ensures { result ≡ list_fault R.Row.tested most table.now service span }
+/// Refuses the first fault of a service's list.
+fn test_list<R: Row>(table: &[R], service: usize, span: Span) -> Result<(), BookFault>
+    ensures { result ≡ verdict (list_fault R.Row.tested R.Row.MOST table.now service span) }
 {
     let start = span.start;
     let len = span.len;
-    if len < 1 || len > most {
-        return Some(BookFault::ListLength(service));
+    if len < 1 || len > R::MOST {
+        return Err(BookFault::ListLength(service));
     }
     if start > table.len() || table.len() - start < len {
-        return Some(BookFault::ListOutside(service));
+        return Err(BookFault::ListOutside(service));
     }
-    rows_fault(service, rows(table, span))
+    test_rows(service, rows(table, span))
 }
 
-/// The first fault of a table of lists, each of at most `most` rows.
-pub(crate) fn lists_fault<R: Row>(most: usize, table: &[R], spans: &[Span]) -> Option<BookFault>
-    ensures { result ≡ lists_fault R.Row.tested most table.now spans.now }
+/// Refuses the first fault of a table of lists.
+pub(crate) fn test_lists<R: Row>(table: &[R], spans: &[Span]) -> Result<(), BookFault>
+    ensures { result ≡ verdict (lists_fault R.Row.tested R.Row.MOST table.now spans.now) }
 {
-    if spans.len() > MOST_SERVICES {
-        return Some(BookFault::TooManyServices);
-    }
+    test_count(spans.len())?;
     for (service, span) in spans.iter().enumerate() {
-        if let Some(fault) = list_fault(most, table, service, *span) {
-            return Some(fault);
-        }
+        test_list(table, service, *span)?;
     }
-    None
+    Ok(())
 }

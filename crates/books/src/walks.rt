@@ -1,17 +1,15 @@
 //! The walk book.
-ghost use Rattle.std.specs.Prelude.{◌≡◌, ◌≤◌, [], length, Ok, Err};
+ghost use Rattle.std.specs.Prelude.{◌≡◌, ◌≤◌, [], length, Ok, Err, Some, None};
+ghost use Rattle.meanings.specs.Answers.{timely};
 ghost use Rattle.meanings.specs.Spans.{most_services};
 ghost use Rattle.meanings.specs.Walks.{walked, Walkable};
 ghost use Rattle.meanings.proofs.Walks.{walked_lawful};
-ghost use Rattle.books.specs.Faults.{walks_fault, verdict};
+ghost use Rattle.meanings.specs.Faults.{walks_fault, verdict};
 
-use crate::fault::BookFault;
-use crate::rows::MOST_SERVICES;
+use crate::rows::test_count;
 use book::Book;
-use model::HORIZON;
-
-/// The longest walk.
-const LONGEST_WALK: u32 = 86_400;
+use meanings::BookFault;
+use model::{HORIZON, LONGEST_WALK};
 
 /// Each service takes its own fixed time.
 #[derive(Clone, Copy, Drop)]
@@ -21,19 +19,11 @@ pub struct Walks<'a> {
     ghost walkable: { Walkable times.now (length times.now) },
 }
 
-/// The first fault of a table of walks.
-fn walks_fault(times: &[u32]) -> Option<BookFault>
-    ensures { result ≡ walks_fault times.now }
+/// An arrival counts only up to the horizon.
+pub(crate) fn timely(arrival: u32) -> Option<u32>
+    ensures { result ≡ timely arrival }
 {
-    if times.len() > MOST_SERVICES {
-        return Some(BookFault::TooManyServices);
-    }
-    for (service, time) in times.iter().enumerate() {
-        if *time > LONGEST_WALK {
-            return Some(BookFault::WalkTooLong(service));
-        }
-    }
-    None
+    (arrival <= HORIZON).then_some(arrival)
 }
 
 impl<'a> Walks<'a> {
@@ -44,15 +34,23 @@ impl<'a> Walks<'a> {
         Walks { times: &[] }
     }
 
+    /// The book over this table, or its first fault.
+    pub fn new(times: &'a [u32]) -> Result<Walks<'a>, BookFault>
+        ensures made { elim result [ Ok book ↦ (book.times.now ≡ times.now) × (walks_fault times.now ≡ None) | Err fault ↦ walks_fault times.now ≡ Some fault ] }
+    {
+        test_count(times.len())?;
+        match times.iter().position(|time| *time > LONGEST_WALK) {
+            Some(service) => Err(BookFault::WalkTooLong(service)),
+            None => Ok(Walks { times }),
+        }
+    }
+
     /// Becomes the book over this table, or refuses at the first fault and stays as it was.
     pub fn lay(&mut self, times: &'a [u32]) -> Result<(), BookFault>
         ensures answer { result ≡ verdict (walks_fault times.now) }
         ensures laid { elim result [ Ok _ ↦ self.new.times.now ≡ times.now | Err _ ↦ self.new ≡ self.old ] }
     {
-        if let Some(fault) = walks_fault(times) {
-            return Err(fault);
-        }
-        self.times = times;
+        *self = Walks::new(times)?;
         Ok(())
     }
 }
@@ -69,14 +67,7 @@ impl<'a> Book for Walks<'a> {
     }
 
     fn arrival(&self, service: u32, coming: u32) -> Option<u32> {
-        if service as usize >= self.times.len() || coming > HORIZON {
-            return None;
-        }
-        let arrival = coming + self.times[service as usize];
-        if arrival > HORIZON {
-            None
-        } else {
-            Some(arrival)
-        }
+        let time = self.times.get(service as usize)?;
+        timely(coming.checked_add(*time)?)
     }
 }

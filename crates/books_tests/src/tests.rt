@@ -3,50 +3,9 @@ use book::{Bank, Book};
 use books::{BookFault, Field, Roads, Timetables, Walks};
 use model::{Connection, Point, Span};
 
-const fn connection(departure: u32, arrival: u32) -> Connection {
-    Connection { departure, arrival }
-}
-
-const fn point(second: u32, travel: u32) -> Point {
-    Point { second, travel }
-}
-
-const fn span(start: usize, len: usize) -> Span {
-    Span { start, len }
-}
-
 // Whether a book answers each service and coming so.
 fn answers<B: Book>(book: &B, table: &[(u32, u32, Option<u32>)]) -> bool {
-    for (service, coming, arrival) in table {
-        if book.arrival(*service, *coming) != *arrival {
-            return false;
-        }
-    }
-    true
-}
-
-// The first fault of a timetable book's tables.
-fn timetables_fault<'a>(connections: &'a [Connection], spans: &'a [Span]) -> Option<BookFault> {
-    match Timetables::empty().lay(connections, spans) {
-        Ok(()) => None,
-        Err(fault) => Some(fault),
-    }
-}
-
-// The first fault of a road book's tables.
-fn roads_fault<'a>(points: &'a [Point], spans: &'a [Span]) -> Option<BookFault> {
-    match Roads::empty().lay(points, spans) {
-        Ok(()) => None,
-        Err(fault) => Some(fault),
-    }
-}
-
-// Whether the fault is this number of row 1 of service 1.
-fn in_row_1(fault: Option<BookFault>, field: Field) -> bool {
-    match field {
-        Field::Departure => matches!(fault, Some(BookFault::Row(1, 1, Field::Departure))),
-        Field::Arrival => matches!(fault, Some(BookFault::Row(1, 1, Field::Arrival))),
-    }
+    table.iter().all(|(service, coming, arrival)| book.arrival(*service, *coming) == *arrival)
 }
 
 #[test]
@@ -56,8 +15,8 @@ fn walks(rt: HostRuntime) {
     let many = [0; 4_097];
     let mut book = Walks::empty();
     assert!(rt; book.lay(&times).is_ok());
-    assert!(rt; matches!(book.lay(&long), Err(BookFault::WalkTooLong(1))));
-    assert!(rt; matches!(book.lay(&many), Err(BookFault::TooManyServices)));
+    assert!(rt; book.lay(&long) == Err(BookFault::WalkTooLong(1)));
+    assert!(rt; book.lay(&many) == Err(BookFault::TooManyServices));
     assert!(rt; book.count() == 3);
     assert!(rt;
         answers(
@@ -79,18 +38,23 @@ fn walks(rt: HostRuntime) {
 #[test]
 fn timetables(rt: HostRuntime) {
     let connections = [
-        connection(600, 2_400),
-        connection(900, 1_800),
-        connection(900, 900),
-        connection(172_800, 172_800),
-        connection(7, 9),
-        connection(7, 8),
+        Connection::new(600, 2_400),
+        Connection::new(900, 1_800),
+        Connection::new(900, 900),
+        Connection::new(172_800, 172_800),
+        Connection::new(7, 9),
+        Connection::new(7, 8),
     ];
-    let spans = [span(0, 2), span(2, 2), span(3, 1), span(4, 2)];
+    let spans = [
+        Span::new(0, 2),
+        Span::new(2, 2),
+        Span::new(3, 1),
+        Span::new(4, 2),
+    ];
     let mut book = Timetables::empty();
     assert!(rt; book.lay(&connections, &spans).is_ok());
-    let outside = [span(5, 2)];
-    assert!(rt; book.lay(&connections, &outside).is_err());
+    let outside = [Span::new(5, 2)];
+    assert!(rt; book.lay(&connections, &outside) == Err(BookFault::ListOutside(0)));
     assert!(rt; book.count() == 4);
     assert!(rt;
         answers(
@@ -115,56 +79,65 @@ fn timetables(rt: HostRuntime) {
 
 #[test]
 fn rows_at_fault(rt: HostRuntime) {
-    let spans = [span(0, 1), span(0, 2)];
+    let spans = [Span::new(0, 1), Span::new(0, 2)];
     let connections = [
-        (connection(599, 2_400), Field::Departure),
-        (connection(172_801, 172_801), Field::Departure),
-        (connection(900, 899), Field::Arrival),
-        (connection(900, 172_801), Field::Arrival),
+        (Connection::new(599, 2_400), Field::Departure),
+        (Connection::new(172_801, 172_801), Field::Departure),
+        (Connection::new(900, 899), Field::Arrival),
+        (Connection::new(900, 172_801), Field::Arrival),
     ];
     for (row, field) in &connections {
-        let fault = timetables_fault(&[connection(600, 2_400), *row], &spans);
-        assert!(rt; in_row_1(fault, *field));
+        let table = [Connection::new(600, 2_400), *row];
+        let made = Timetables::new(&table, &spans);
+        assert!(rt; made.err() == Some(BookFault::Row(1, 1, *field)));
     }
     let points = [
-        (point(5, 600), Field::Departure),
-        (point(172_801, 0), Field::Departure),
-        (point(6, 598), Field::Arrival),
-        (point(172_800, 4_294_967_295), Field::Arrival),
+        (Point::new(5, 600), Field::Departure),
+        (Point::new(172_801, 0), Field::Departure),
+        (Point::new(6, 598), Field::Arrival),
+        (Point::new(172_800, 4_294_967_295), Field::Arrival),
     ];
     for (row, field) in &points {
-        let fault = roads_fault(&[point(5, 600), *row], &spans);
-        assert!(rt; in_row_1(fault, *field));
+        let table = [Point::new(5, 600), *row];
+        let made = Roads::new(&table, &spans);
+        assert!(rt; made.err() == Some(BookFault::Row(1, 1, *field)));
     }
 }
 
 #[test]
 fn lists_at_fault(rt: HostRuntime) {
-    let equal = [connection(5, 9); 513];
-    let full = [span(0, 1), span(1, 512)];
-    let mut book = Timetables::empty();
-    assert!(rt; book.lay(&equal, &full).is_ok());
-    for list in &[span(0, 0), span(0, 513)] {
-        let fault = timetables_fault(&equal, &[span(0, 1), *list]);
-        assert!(rt; matches!(fault, Some(BookFault::ListLength(1))));
+    let equal = [Connection::new(5, 9); 513];
+    let full = [Span::new(0, 1), Span::new(1, 512)];
+    let book = Timetables::new(&equal, &full).expect(&rt, "full lists");
+    for list in &[Span::new(0, 0), Span::new(0, 513)] {
+        let spans = [Span::new(0, 1), *list];
+        let made = Timetables::new(&equal, &spans);
+        assert!(rt; made.err() == Some(BookFault::ListLength(1)));
     }
-    for list in &[span(2, 512), span(514, 1)] {
-        let fault = timetables_fault(&equal, &[span(0, 1), *list]);
-        assert!(rt; matches!(fault, Some(BookFault::ListOutside(1))));
+    for list in &[Span::new(2, 512), Span::new(514, 1)] {
+        let spans = [Span::new(0, 1), *list];
+        let made = Timetables::new(&equal, &spans);
+        assert!(rt; made.err() == Some(BookFault::ListOutside(1)));
     }
-    let fault = roads_fault(&[point(0, 0)], &[span(0, 97)]);
-    assert!(rt; matches!(fault, Some(BookFault::ListLength(0))));
+    let points = [Point::new(0, 0)];
+    let spans = [Span::new(0, 97)];
+    let made = Roads::new(&points, &spans);
+    assert!(rt; made.err() == Some(BookFault::ListLength(0)));
     assert!(rt; answers(&book, &[(1, 5, Some(9)), (1, 6, None), (2, 5, None)]));
 }
 
 #[test]
 fn roads(rt: HostRuntime) {
-    let points = [point(0, 600), point(1_000, 200), point(100, 50)];
-    let spans = [span(0, 2), span(2, 1)];
+    let points = [
+        Point::new(0, 600),
+        Point::new(1_000, 200),
+        Point::new(100, 50),
+    ];
+    let spans = [Span::new(0, 2), Span::new(2, 1)];
     let mut book = Roads::empty();
     assert!(rt; book.lay(&points, &spans).is_ok());
-    let outside = [span(2, 2)];
-    assert!(rt; book.lay(&points, &outside).is_err());
+    let outside = [Span::new(2, 2)];
+    assert!(rt; book.lay(&points, &outside) == Err(BookFault::ListOutside(0)));
     assert!(rt;
         answers(
             &book,
@@ -187,12 +160,10 @@ fn roads(rt: HostRuntime) {
 #[test]
 fn banks(rt: HostRuntime) {
     let times = [10, 30];
-    let mut walks = Walks::empty();
-    assert!(rt; walks.lay(&times).is_ok());
-    let points = [point(0, 20)];
-    let spans = [span(0, 1)];
-    let mut roads = Roads::empty();
-    assert!(rt; roads.lay(&points, &spans).is_ok());
+    let walks = Walks::new(&times).expect(&rt, "walks");
+    let points = [Point::new(0, 20)];
+    let spans = [Span::new(0, 1)];
+    let roads = Roads::new(&points, &spans).expect(&rt, "roads");
     let bank = Bank {
         first: &walks,
         second: roads,

@@ -1,28 +1,26 @@
-use Rattle.std.proofs.Common.{sym, ◌∙◌, arith}
-use Rattle.meanings.proofs.Roads.{unstarted, first, next, before, after, last}
+use Rattle.std.proofs.Common.{sym, ◌∙◌}
+use Rattle.meanings.proofs.Roads.{started, unstarted, timely_after, next, after}
 use Rattle.books.proofs.roads.ridden.Goals as goal
 
-pub returns-then-coming-last : goal.returns-then-coming-last
-returns-then-coming-last c = sym (unstarted c.args.points.now c.args.coming c.requires.some c.requires.rising c.requires.steady c.if-coming-last.true)
+pub returns-then-coming-first : goal.returns-then-coming-first
+returns-then-coming-first c = sym (unstarted _ _ _ c.in-Some.ensures.cases.0 c.requires.rising c.requires.steady c.args.coming c.if-coming-first.true)
 
-pub loop-j-init : goal.loop-j-init
-loop-j-init c =
-    let f = first c.args.points.now c.args.coming c.requires.some c.requires.rising c.requires.steady (omega arith) in
-    (omega arith, c.requires.timely 0 c.requires.some, f.0, f.1)
+pub loop-next-init : goal.loop-next-init
+loop-next-init c =
+    let parted = c.in-Some.ensures.cases.0 in
+    let start = started _ _ _ parted c.requires.rising c.requires.steady c.args.coming c.if-coming-first.false in
+    (c.if-coming-first.false, (timely_after _ _ _ parted c.requires.timely).0, start.0, start.1)
 
 pub between-requires : goal.between-requires
 between-requires c =
-    let n = next c.args.points.now c.loop-j.last c.loop-j.j c.loop-j-test.true c.loop-j.invariant.2 in
-    (c.loop-j.invariant.0, (c.if-coming-next.true, (n.1, c.requires.timely c.loop-j.j c.loop-j-test.true)))
+    let on = next c.in-Some.more.now c.loop-next.last.now c.loop-next.next-index c.loop-next-test.true c.loop-next.invariant.2 in
+    (c.loop-next.invariant.0, (c.if-coming-next.true, (on.1, (timely_after _ _ _ c.in-Some.ensures.cases.0 c.requires.timely).1 c.loop-next.next-index c.loop-next-test.true)))
 
-pub returns-then-coming-next : goal.returns-then-coming-next
-returns-then-coming-next c =
-    c.between.ensures ∙ sym (c.loop-j.invariant.3 ∙ before c.args.points.now c.loop-j.last c.loop-j.j c.loop-j-test.true c.args.coming c.if-coming-next.true)
-
-pub loop-j-preserved : goal.loop-j-preserved
-loop-j-preserved c =
-    let n = next c.args.points.now c.loop-j.last c.loop-j.j c.loop-j-test.true c.loop-j.invariant.2 in
-    (c.if-coming-next.false, c.requires.timely c.loop-j.j c.loop-j-test.true, n.2, c.loop-j.invariant.3 ∙ after c.args.points.now c.loop-j.last c.loop-j.j c.loop-j-test.true c.args.coming c.if-coming-next.false)
-
-pub returns : goal.returns
-returns c = sym (c.loop-j.invariant.3 ∙ last c.args.points.now c.loop-j.last c.loop-j.j c.args.coming c.loop-j-test.false)
+pub loop-next-preserved : goal.loop-next-preserved
+loop-next-preserved c =
+    let on = next c.in-Some.more.now c.loop-next.last.now c.loop-next.next-index c.loop-next-test.true c.loop-next.invariant.2 in (
+      c.if-coming-next.false,
+      (timely_after _ _ _ c.in-Some.ensures.cases.0 c.requires.timely).1 c.loop-next.next-index c.loop-next-test.true,
+      on.2,
+      c.loop-next.invariant.3 ∙ after c.in-Some.more.now c.loop-next.last.now c.loop-next.next-index c.loop-next-test.true c.args.coming c.if-coming-next.false,
+    )

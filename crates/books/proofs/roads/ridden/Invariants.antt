@@ -4,9 +4,9 @@ use Rattle.meanings.specs.Roads.{ridden, reached}
 use Rattle.meanings.proofs.Roads.{Ordered, onward}
 use Rattle.books.proofs.roads.ridden.Given as goal
 
-abbrev pub invariant-loop-j : goal.invariant-loop-j
-invariant-loop-j l =
+abbrev pub invariant-loop-next : goal.invariant-loop-next
+invariant-loop-next l =
     (l.last.second ≤ l.coming)
     × (reached l.last ≤ horizon)
-    × Ordered l.last (drop l.j l.points)
-    × (ridden l.points l.coming ≡ onward l.last (drop l.j l.points) l.coming)
+    × Ordered l.last (drop l.next-index l.more)
+    × (ridden l.points l.coming ≡ onward l.last (drop l.next-index l.more) l.coming)

@@ -1,13 +1,12 @@
-use Rattle.std.proofs.Common.{ap, ◌∙◌, take_all}
-use Rattle.meanings.specs.Timetables.{least, arrivals, no_connection}
-use Rattle.meanings.proofs.Timetables.{least_more}
+use Rattle.std.proofs.Common.{min, ◌∙◌, rules}
+use Rattle.std.proofs.lemmas.Iterator.{YieldsList-from_slice, YieldsList-from_map}
+use Rattle.meanings.specs.Timetables.{arrivals}
+use Rattle.meanings.proofs.Timetables.{reduce_least}
+use Rattle.books.proofs.Least.{reduced}
 use Rattle.books.proofs.timetables.least_arrival.Goals as goal
 
-pub loop-connection-preserved : goal.loop-connection-preserved
-loop-connection-preserved c =
-    let e = least_more c.args.list.now c.loop-connection.connection-index no_connection c.loop-connection-test.true in
-    let f = c.loop-connection.invariant in
-    cc c.sooner-best.ensures
-
 pub returns : goal.returns
-returns c = c.loop-connection.invariant ∙ ap (λ l. least (arrivals l)) (take_all _ _ c.loop-connection-test.false)
+returns c =
+    let list = c.args.list.now in
+    reduced _ min _ (λ a x b q k. search rules) c.map.result _ c.reduce.ensures.ran (YieldsList-from_map _ (λ x. x.arrival) (YieldsList-from_slice list cc) c.map.ensures.closure (λ x r q k. search rules))
+    ∙ reduce_least (arrivals list)
