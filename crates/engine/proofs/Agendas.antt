@@ -1,35 +1,26 @@
 -- What a push and a pop do to the agenda of a search.
-use Rattle.std.proofs.Common.{◌≡◌, ℕ, zero, suc, ◌<◌, Bool, true, false, not, ◌&&◌, eqb, ◌⊎◌, List, [], ◌∷◌, length, get_or, set, Some, None, Option, sym, refl, ap, ◌∙◌, subst, inl, inr, arith}
+use Rattle.std.proofs.Common.{◌≡◌, ℕ, ◌<◌, Bool, true, false, not, ◌&&◌, eqb, List, [], ◌∷◌, length, get_or, set, replicate, Some, None, Option, sym, refl, ap, ◌∙◌, subst, inl, inr, arith}
+use Rattle.std.proofs.lemmas.Option.{none-some}
 use Rattle.std.specs.List.{ContainsAt as Has, AllByRecursion}
 use Rattle.std.proofs.ByRecursion.{All-weaker}
-use Rattle.std.proofs.lemmas.List.{get_or-set_same, get_or-set_other}
-use Rattle.std.proofs.lemmas.Bool.{cases_eq, both_ways, and_parts, eqb-true}
+use Rattle.std.proofs.lemmas.List.{get_or-set_same, get_or-set_other, get_or-replicate, get_or_past, length-replicate}
+use Rattle.std.proofs.lemmas.Bool.{cases_eq, cases_lt, both_ways, and_parts, eqb-true}
 use Rattle.std.proofs.lemmas.Bool.Decides.{nat_tests}
 use Rattle.model.specs.Trips.{Upto2, Upto3}
-use Rattle.model.proofs.Options.{not_none, one_some}
+use Rattle.model.proofs.Options.{one_some}
 use Rattle.labels.specs.declared.label.Label.{Label}
 use Rattle.labels.specs.Table.{settle}
 use Rattle.labels.specs.Rows.{Rows, Waits, Foremost, improves}
 use Rattle.labels.proofs.Tables.{better_true}
 use Rattle.labels.proofs.Searching.{row_below}
+use Rattle.queue.specs.declared.order.Ranked.{Ghosts}
 use Rattle.queue.specs.declared.queue.Queue.{Queue}
-use Rattle.queue.specs.Contents.{contents, Ready, Took, Put, FirstOut}
+use Rattle.queue.specs.Contents.{contents, Took, Put, FirstOut}
 use Rattle.queue.specs.Lex.{lex}
-use Rattle.queue.proofs.Facts.{all_put, has_put, all_took, has_took, least_took}
+use Rattle.queue.proofs.Facts.{has_cases, has_front, has_behind, all_put, has_put, all_took, has_took, least_took}
 use Rattle.engine.specs.declared.entry.Entry.{Entry}
 use Rattle.engine.specs.Before.{entry_before}
 use Rattle.engine.specs.Agenda.{entry, queued, Known, Agenda}
-
--- the front of a list, or what is behind it
-has_cases : {X : Type 0} (x : X) (xs : List X) (y : X) → Has (x ∷ xs) y → (x ≡ y) ⊎ Has xs y
-has_cases x xs y (zero, lt, at) = inl (at y)
-has_cases x xs y (suc k, lt, at) = inr (k, omega arith, at)
-
-has_front : {X : Type 0} (x : X) (xs : List X) → Has (x ∷ xs) x
-has_front x xs = (0, omega arith, λ d. refl)
-
-has_behind : {X : Type 0} (x : X) (xs : List X) (y : X) → Has xs y → Has (x ∷ xs) y
-has_behind x xs y h = let lt : h.0 < length xs = h.1 in (suc h.0, omega arith, h.2)
 
 not_settled : (b : Bool) → not b ≡ true → b ≡ false
 not_settled true e = sym e
@@ -39,7 +30,7 @@ not_lex : (a b c x y z : ℕ) → lex a b c x y z ≡ false → Upto3 x y z a b 
 not_lex a b c x y z h = grind (arith, nat_tests)
 
 -- an element taken out of the queue
-module _ (rows : Rows) (q q' : Queue Entry) (e : Entry) (agenda : Agenda rows q) (took : Took (contents q) e (contents q')) (ready : Ready entry_before q') where
+module _ {ranked : Ghosts Entry} (rows : Rows) (q q' : Queue Entry ranked) (e : Entry) (agenda : Agenda rows q) (took : Took (contents q) e (contents q')) where
   pub taken_known : Known rows e
   taken_known = (all_took (Known rows) (contents q) e (contents q') took agenda.known).0
 
@@ -56,7 +47,6 @@ module _ (rows : Rows) (q q' : Queue Entry) (e : Entry) (agenda : Agenda rows q)
   -- it is of a settled place: passed over
   pub passed : (l : Label) → get_or rows e.place None ≡ Some l → l.settled ≡ true → Agenda rows q'
   passed l h s = record {
-    ready = ready;
     waiting = λ r m w. left r m w (λ g.
         let n : l ≡ m = one_some (get_or rows e.place None) l m h (subst (λ (z : ℕ). get_or rows z None ≡ Some m) g w.0) in
         both_ways m.settled w.1 (subst (λ (z : Label). z.settled ≡ true) n s));
@@ -102,16 +92,15 @@ module _ (rows : Rows) (q q' : Queue Entry) (e : Entry) (agenda : Agenda rows q)
 
     pub settled_next : Agenda (set rows e.place (Some (settle l))) q'
     settled_next = record {
-      ready = ready;
       waiting = λ r m w. let x = waits_settled r m w in left r m x.0 x.1;
       known = All-weaker (Known rows) (Known (set rows e.place (Some (settle l)))) known_settled (contents q')
           (all_took (Known rows) (contents q) e (contents q') took agenda.known).1;
     }
 
 -- a better label written
-module _ (rows : Rows) (q : Queue Entry) (r : ℕ) (l : Label) (agenda : Agenda rows q) (within : r < length rows) (better : improves (get_or rows r None) l ≡ true) where
+module _ {ranked : Ghosts Entry} (rows : Rows) (q : Queue Entry ranked) (r : ℕ) (l : Label) (agenda : Agenda rows q) (within : r < length rows) (better : improves (get_or rows r None) l ≡ true) where
   no_worse : (x : Option Label) (k : Label) → improves x l ≡ true → x ≡ Some k → Upto2 l.second l.legs k.second k.legs
-  no_worse None k b e = absurd (not_none k e)
+  no_worse None k b e = absurd (none-some k e)
   no_worse (Some m) k b e =
       let mk : m ≡ k = one_some (Some m) m k refl e in
       let u = better_true l m b in
@@ -148,9 +137,8 @@ module _ (rows : Rows) (q : Queue Entry) (r : ℕ) (l : Label) (agenda : Agenda 
   all_written = All-weaker (Known rows) (Known (set rows r (Some l))) known_written (contents q) agenda.known
 
   -- and queued
-  pub written : (q' : Queue Entry) (n : ℕ) → Put n (contents q) (entry r l) (contents q') → Ready entry_before q' → Agenda (set rows r (Some l)) q'
-  written q' n put ready = record {
-    ready = ready;
+  pub written : (q' : Queue Entry ranked) (n : ℕ) → Put n (contents q) (entry r l) (contents q') → Agenda (set rows r (Some l)) q'
+  written q' n put = record {
     waiting = λ i m w. has_put n (contents q) (entry r l) (contents q') (entry i m) put (waiting_written i m w);
     known = all_put (Known (set rows r (Some l))) n (contents q) (entry r l) (contents q') put
         (record { label = l; here = get_or-set_same rows r (Some l) None within; not_after = omega arith })
@@ -171,7 +159,6 @@ module _ (rows : Rows) (q : Queue Entry) (r : ℕ) (l : Label) (agenda : Agenda 
           let same : entry r m ≡ entry r l = λ i. record { second = s i; legs = t i; place = r } in
           let here : Has (contents q) (entry r l) = subst (λ (z : Entry). Has (contents q) z) same (agenda.waiting r m (is, not_settled m.settled a.0)) in
           record {
-            ready = agenda.ready;
             waiting = λ i k w. elim (has_cases (entry r l) (contents q) (entry i k) (waiting_written i k w)) [
               | inl g ↦ subst (λ (z : Entry). Has (contents q) z) g here
               | inr g ↦ g
@@ -179,16 +166,24 @@ module _ (rows : Rows) (q : Queue Entry) (r : ℕ) (l : Label) (agenda : Agenda 
             known = all_written;
           }
 
+-- rows that are cleared hold no label
+pub none_labelled : (rows : Rows) (n : ℕ) → rows ≡ replicate n None → (i : ℕ) → get_or rows i None ≡ None
+none_labelled rows n e i =
+    ap (λ (z : Rows). get_or z i None) e
+    ∙ elim (cases_lt i n) [
+      | inl h ↦ get_or-replicate n i None None h
+      | inr h ↦ get_or_past (replicate n None) i None (omega (arith, length-replicate {A = Option Label} n None))
+    ]
+
 -- nothing is labelled and nothing queued
-pub agenda_empty : (rows : Rows) (q : Queue Entry) → Ready entry_before q → contents q ≡ [] → ((i : ℕ) → get_or rows i None ≡ None) → Agenda rows q
-agenda_empty rows q ready empty none = record {
-  ready = ready;
-  waiting = λ r l w. absurd (not_none l (sym (none r) ∙ w.0));
+pub agenda_empty : {ranked : Ghosts Entry} (rows : Rows) (q : Queue Entry ranked) → contents q ≡ [] → ((i : ℕ) → get_or rows i None ≡ None) → Agenda rows q
+agenda_empty rows q empty none = record {
+  waiting = λ r l w. absurd (none-some l (sym (none r) ∙ w.0));
   known = subst (λ (xs : List Entry). AllByRecursion (Known rows) xs) (sym empty) tt;
 }
 
 -- an empty queue has nothing to settle
-pub agenda_done : (rows : Rows) (q : Queue Entry) → Agenda rows q → contents q ≡ [] → (i : ℕ) (m : Label) → Waits rows i m → ⊥
+pub agenda_done : {ranked : Ghosts Entry} (rows : Rows) (q : Queue Entry ranked) → Agenda rows q → contents q ≡ [] → (i : ℕ) (m : Label) → Waits rows i m → ⊥
 agenda_done rows q agenda empty i m w =
     let h : Has [] (entry i m) = subst (λ (xs : List Entry). Has xs (entry i m)) empty (agenda.waiting i m w) in
     let lt : h.0 < 0 = h.1 in

@@ -1,11 +1,11 @@
 -- What a network gives to a search: the arcs that leave a stop, and a row for each place that an arc leads to.
-use Rattle.std.proofs.Common.{◌≡◌, ℕ, ◌+◌, ◌-◌, ◌*◌, ◌/◌, ◌<◌, ◌≤◌, List, get_or, set, Some, sym, ap, ◌∙◌, subst, arith}
+use Rattle.std.proofs.Common.{◌≡◌, ℕ, ◌+◌, ◌-◌, ◌*◌, ◌/◌, ◌<◌, ◌≤◌, List, get_or, set, Some, ap, ◌∙◌, subst, arith}
 use Rattle.std.specs.List.{slice_get}
 use Rattle.std.proofs.lemmas.Option.{slice_get-get_or}
 use Rattle.std.proofs.lemmas.Nat.{mul-add-lt, mul-le}
 use Rattle.model.specs.declared.network.Arc.{Arc}
 use Rattle.model.proofs.Options.{one_some}
-use Rattle.network.specs.declared.fault.ArcRange.{ArcRange}
+use Rattle.std.specs.declared.ops.Range.{Range}
 use Rattle.network.specs.Sound.{Fit, Leaving}
 use Rattle.labels.specs.declared.label.Label.{Label}
 use Rattle.labels.specs.Table.{settle}
@@ -16,7 +16,7 @@ use Rattle.labels.proofs.Searching.{row_below, relaxed_more}
 nth_is : (arcs : List Arc) (i : ℕ) (x : Arc) → slice_get arcs i ≡ Some x → get_or arcs i x ≡ x
 nth_is arcs i x e = one_some (slice_get arcs i) (get_or arcs i x) x (slice_get-get_or arcs i x (nth_below arcs i x e)) e
 
-pub leaving_among : (arcs : List Arc) (v : ℕ) (range : ArcRange) → Leaving arcs v range → Among arcs v range.first range.end
+pub leaving_among : (arcs : List Arc) (v : ℕ) (range : Range ℕ) → Leaving arcs v range → Among arcs v range.start range.end
 leaving_among arcs v range l i x e tail = l.all i x (nth_below arcs i x e) (ap Arc.tail (nth_is arcs i x e) ∙ tail)
 
 pub fit_room : (arcs : List Arc) (stops k n : ℕ) → Fit stops arcs → n ≡ stops * k → Room arcs k n
@@ -30,18 +30,10 @@ fit_room arcs stops k n fit size i x s e below =
 pub rows_few : (stops k n : ℕ) → stops ≤ 1024 → k ≤ 65 → n ≡ stops * k → n ≤ 66560
 rows_few stops k n a b size = let c : stops * k ≤ 1024 * 65 = mul-le stops k 1024 65 a b in omega arith
 
--- the same of a list that is equal to the network's arcs
-pub among_of : (arcs xs : List Arc) (v : ℕ) (range : ArcRange) → xs ≡ arcs → Leaving arcs v range → Among xs v range.first range.end
-among_of arcs xs v range e l = subst (λ (z : List Arc). Among z v range.first range.end) (sym e) (leaving_among arcs v range l)
-
-pub room_of : (arcs xs : List Arc) (stops k n : ℕ) → xs ≡ arcs → Fit stops arcs → n ≡ stops * k → Room xs k n
-room_of arcs xs stops k n e fit size = subst (λ (z : List Arc). Room z k n) (sym e) (fit_room arcs stops k n fit size)
-
 -- settling r makes room in the queue for what the arcs leaving its stop may offer
-pub range_room : (arcs : List Arc) (k s : ℕ) (rows : Rows) (r : ℕ) (l : Label) (range : ArcRange) (n : ℕ) → 0 < k → s ≡ k → Waits rows r l
-    → Leaving arcs (r / s) range → n ≤ relaxed_count arcs k rows → n + (range.end - range.first) ≤ relaxed_count arcs k (set rows r (Some (settle l)))
-range_room arcs k s rows r l range n pos same waits leaving few =
-    let at : Leaving arcs (r / k) range = subst (λ (z : ℕ). Leaving arcs (r / z) range) same leaving in
-    let more : relaxed_count arcs k rows + (range.end - range.first) ≤ relaxed_count arcs k (set rows r (Some (settle l)))
-    = relaxed_more arcs k rows r l range.first range.end pos (row_below rows r l waits.0) (ap is_settled waits.0 ∙ waits.1) at.within at.leave in
+pub range_room : (arcs : List Arc) (k : ℕ) (rows : Rows) (r : ℕ) (l : Label) (range : Range ℕ) (n : ℕ) → 0 < k → Waits rows r l
+    → Leaving arcs (r / k) range → n ≤ relaxed_count arcs k rows → n + (range.end - range.start) ≤ relaxed_count arcs k (set rows r (Some (settle l)))
+range_room arcs k rows r l range n pos waits at few =
+    let more : relaxed_count arcs k rows + (range.end - range.start) ≤ relaxed_count arcs k (set rows r (Some (settle l)))
+    = relaxed_more arcs k rows r l range.start range.end pos (row_below rows r l waits.0) (ap is_settled waits.0 ∙ waits.1) at.within at.leave in
     omega arith

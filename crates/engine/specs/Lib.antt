@@ -1,2 +1,4 @@
 pub mod Before
 pub mod Agenda
+pub mod Frontiers
+pub mod Worlds

@@ -1,12 +1,14 @@
 //! The label-setting search over the product of a network and a rule's automaton.
 #![tactic(auto)]
 
-mod begin;
 mod entry;
-mod next;
+mod frontier;
+mod product;
 mod refusal;
-mod relax;
+mod tables;
 mod turns;
 
 pub use entry::Entry;
-pub use turns::search;
+pub use product::Product;
+pub use tables::SearchTables;
+pub use turns::Reached;

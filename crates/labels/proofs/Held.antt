@@ -1,10 +1,11 @@
 -- What a search's table always holds, and that a turn keeps it.
 use Rattle.std.proofs.Common.{◌≡◌, ℕ, zero, suc, ◌<◌, ◌≤◌, true, false, ◌⊎◌, length, Some, None, sym, refl, ap, ◌∙◌, subst, inl, inr, arith}
+use Rattle.std.proofs.lemmas.Option.{none-some}
 use Rattle.std.proofs.lemmas.Bool.{both_ways, cases_eq}
 use Rattle.model.specs.declared.network.Place.{Place}
 use Rattle.model.specs.Trips.{World, LawfulWorld, Rides, Upto2, Upto4}
 use Rattle.labels.specs.Table.{Label, Table, put, offered, offer, relax, relax_below, settle, turn, Least, begun, Search, begin, next}
-use Rattle.model.proofs.Options.{not_none, one_some}
+use Rattle.model.proofs.Options.{one_some}
 use Rattle.labels.proofs.Tables.{nth_below, cases_place, put_here, put_apart, put_cases, Upto, upto_on, offer_rides, rides_offer, Accepted, accept_is}
 
 -- the label of q comes from a settled place, by one leg with no waiting
@@ -412,7 +413,7 @@ rests_first w o t = record {
     l = record { second = t; legs = 0; arc = 0; state = 0; settled = false }
 
     is : (q : Place) (m : Label) → begun o t q ≡ Some m → (q ≡ o) × (m ≡ l)
-    is q m e = elim (put_cases empty o l q m e) [ inl h ↦ h | inr h ↦ absurd (not_none m h.1) ]
+    is q m e = elim (put_cases empty o l q m e) [ inl h ↦ h | inr h ↦ absurd (none-some m h.1) ]
 
 pub search_rests : (w : World) → LawfulWorld w → (o : Place) (t : ℕ) {T : Table} → Search w o t T → Rests w o t T
 search_rests w law o t begin = rests_first w o t

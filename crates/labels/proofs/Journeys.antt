@@ -1,5 +1,6 @@
 -- The journeys of two small worlds, from tables of their labels.
 use Rattle.std.proofs.Common.{◌≡◌, ℕ, zero, suc, ◌≤◌, Bool, true, false, cond, ◌&&◌, ltb, ◌⊎◌, List, [], ◌∷◌, Some, None, Option, sym, refl, ap, ◌∙◌, subst, inl, inr, arith}
+use Rattle.std.proofs.lemmas.Option.{none-some, same_Some}
 use Rattle.std.specs.List.{slice_get}
 use Rattle.std.proofs.lemmas.Bool.{both_ways, cases_Bool, ltb-true, le-ltb}
 use Rattle.model.specs.declared.network.Arc.{Arc}
@@ -9,7 +10,6 @@ use Rattle.model.specs.Books.{LawfulBook}
 use Rattle.model.specs.Rules.{LawfulRule, label_count}
 use Rattle.model.specs.Trips.{World, LawfulWorld, world, place, Rides, Ends, Answer, Upto2, Upto4}
 use Rattle.model.specs.Journeys.{any_word, straight_or_round, to_the_pier, OneWalkBeatsTwo, TwoWalksToABoat}
-use Rattle.model.proofs.Options.{some_is, not_none}
 use Rattle.model.proofs.Unique.{place_is}
 use Rattle.model.proofs.Worlds.{world_is_lawful}
 use Rattle.labels.specs.Table.{Label, Table, Offer, same_place, Least, source, after}
@@ -28,12 +28,12 @@ Each P [] = Unit {0}
 Each P (f ∷ fs) = P f.at f.label × Each P fs
 
 each : (P : Place → Label → Type 0) (fs : List Offer) → Each P fs → (q : Place) (l : Label) → table fs q ≡ Some l → P q l
-each P [] h q l e = absurd (not_none l e)
+each P [] h q l e = absurd (none-some l e)
 each P (f ∷ fs) h q l e =
     elim (cases_Bool (same_place q f.at)) [
       | inl b ↦
           let at : f.at ≡ q = sym (same_place_is q f.at b) in
-          let is : f.label ≡ l = some_is f.label l (sym (ap (λ (z : Bool). cond z (Some f.label) (table fs q)) b) ∙ e) in
+          let is : f.label ≡ l = same_Some f.label l (sym (ap (λ (z : Bool). cond z (Some f.label) (table fs q)) b) ∙ e) in
           subst (λ (z : Label). P q z) is (subst (λ (z : Place). P z f.label) at h.0)
       | inr b ↦ each P fs h.1 q l (sym (ap (λ (z : Bool). cond z (Some f.label) (table fs q)) b) ∙ e)
     ]
@@ -44,8 +44,8 @@ EachArc P i [] = Unit {0}
 EachArc P i (x ∷ xs) = P i x × EachArc P (suc i) xs
 
 each_arc : (P : ℕ → Arc → Type 0) (xs : List Arc) → EachArc P 0 xs → (i : ℕ) (x : Arc) → slice_get xs i ≡ Some x → P i x
-each_arc P [] h i x e = absurd (not_none x e)
-each_arc P (y ∷ ys) h zero x e = subst (λ (z : Arc). P 0 z) (some_is y x e) h.0
+each_arc P [] h i x e = absurd (none-some x e)
+each_arc P (y ∷ ys) h zero x e = subst (λ (z : Arc). P 0 z) (same_Some y x e) h.0
 each_arc P (y ∷ ys) h (suc i) x e = each_arc (λ j z. P (suc j) z) ys (shift 0 ys h.1) i x e
   where
     shift : (k : ℕ) (zs : List Arc) → EachArc P (suc k) zs → EachArc (λ j z. P (suc j) z) k zs
@@ -56,8 +56,8 @@ abbrev label : ℕ → ℕ → ℕ → ℕ → Bool → Label
 label second legs arc state settled = record { second = second; legs = legs; arc = arc; state = state; settled = settled }
 
 only_zero : (b : Bool) (n : ℕ) → cond b (Some 0) None ≡ Some n → n ≡ 0
-only_zero true n e = sym (some_is 0 n e)
-only_zero false n e = absurd (not_none n e)
+only_zero true n e = sym (same_Some 0 n e)
+only_zero false n e = absurd (none-some n e)
 
 and_false : (b : Bool) → (b && false) ≡ false
 and_false true = refl
@@ -80,8 +80,8 @@ landing : (arcs : List Arc) (answer : ℕ → ℕ → Option ℕ) (p q : Place) 
     → x ≡ r.along → p.state ≡ 0 → any_word.next 0 x.label ≡ Some 0 → answer x.service t ≡ Some b → (place x.head 0 ≡ q) × (b ≡ a)
 landing arcs answer p q i t a b x r along at spells served = (
   place_is (place x.head 0) q (ap Arc.head along ∙ r.reaches)
-      (some_is 0 q.state (sym spells ∙ (λ j. any_word.next (sym at j) (along j).label) ∙ r.spells)),
-  some_is b a (sym served ∙ ap (λ (z : Arc). answer z.service t) along ∙ r.served),
+      (same_Some 0 q.state (sym spells ∙ (λ j. any_word.next (sym at j) (along j).label) ∙ r.spells)),
+  same_Some b a (sym served ∙ ap (λ (z : Arc). answer z.service t) along ∙ r.served),
 )
 
 -- an arc that leaves another stop is not ridden

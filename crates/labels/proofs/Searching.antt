@@ -1,5 +1,6 @@
 -- A turn of the search over rows: it is a turn of the search, settles one row more, and relaxes each arc at its tail once more.
 use Rattle.std.proofs.Common.{◌≡◌, ℕ, ◌+◌, ◌-◌, ◌*◌, ◌/◌, ◌%◌, ◌^◌, ◌<◌, ◌≤◌, Bool, true, false, List, length, get_or, set, Some, None, Option, sym, refl, ap, ◌∙◌, subst, inl, inr, arith}
+use Rattle.std.proofs.lemmas.Option.{none-some}
 use mathlib.Core.Path.{fun_ext}
 use Rattle.std.specs.List.{slice_get}
 use Rattle.std.proofs.lemmas.Option.{slice_get-get_or}
@@ -9,7 +10,7 @@ use Rattle.std.proofs.lemmas.Bool.{cases_lt, cases_eq, both_ways}
 use Rattle.model.specs.declared.network.Arc.{Arc}
 use Rattle.model.specs.declared.network.Place.{Place}
 use Rattle.model.specs.Trips.{World, LawfulWorld, Ends, Upto3}
-use Rattle.model.proofs.Options.{not_none, one_some}
+use Rattle.model.proofs.Options.{one_some}
 use Rattle.labels.specs.declared.label.Label.{Label}
 use Rattle.labels.specs.Table.{Table, put, settle, turn, Least, begun, Search, next, Finished, Unmet, Tied}
 use Rattle.labels.specs.Rows.{Rows, row_of, view, Waits, Foremost, place_of, is_settled, count_below, settled_count, settled_at, relaxed_count, LegsBound}
@@ -20,13 +21,13 @@ use Rattle.labels.proofs.Counting.{count_le, count_lt, count_max, sum_more, sum_
 
 pub row_below : (rows : Rows) (i : ℕ) (l : Label) → get_or rows i None ≡ Some l → i < length rows
 row_below rows i l e =
-    elim (cases_lt i (length rows)) [ inl h ↦ h | inr h ↦ absurd (not_none l (sym (get_or_past rows i None h) ∙ e)) ]
+    elim (cases_lt i (length rows)) [ inl h ↦ h | inr h ↦ absurd (none-some l (sym (get_or_past rows i None h) ∙ e)) ]
 
 pub view_some : (k : ℕ) (rows : Rows) (q : Place) (l : Label) → view k rows q ≡ Some l → (q.state < k) × (get_or rows (row_of k q) None ≡ Some l)
 view_some k rows q l e =
     elim (cases_lt q.state k) [
       | inl h ↦ (h, sym (view_below k rows q h) ∙ e)
-      | inr h ↦ absurd (not_none l (sym (view_past k rows q h) ∙ e))
+      | inr h ↦ absurd (none-some l (sym (view_past k rows q h) ∙ e))
     ]
 
 pub view_row : (k : ℕ) (rows : Rows) (r : ℕ) → 0 < k → view k rows (place_of k r) ≡ get_or rows r None
@@ -63,7 +64,7 @@ settled_set rows r l h i e =
 
 settled_at_lt : (k : ℕ) (rows : Rows) (r : ℕ) (l : Label) (x : Option Arc) (y : Arc) → 0 < k → r < length rows → is_settled (get_or rows r None) ≡ false
     → x ≡ Some y → y.tail ≡ r / k → settled_at k rows x < settled_at k (set rows r (Some (settle l))) x
-settled_at_lt k rows r l None y pos h u e tail = absurd (not_none y e)
+settled_at_lt k rows r l None y pos h u e tail = absurd (none-some y e)
 settled_at_lt k rows r l (Some x) y pos h u e tail =
     let xy : x ≡ y = one_some (Some x) x y refl e in
     let row : x.tail * k + r % k ≡ r = ap (λ (z : Arc). z.tail * k + r % k) xy ∙ ap (λ (v : ℕ). v * k + r % k) tail ∙ div-add-mod' r k in
@@ -191,14 +192,6 @@ view_begun k rows o t low within h =
     ∙ ap (λ (T : Table). put T o (record { second = t; legs = 0; arc = 0; state = 0; settled = false }))
     (view_none k rows (λ i. elim (cases_lt i (length rows)) [ inl g ↦ h i g | inr g ↦ get_or_past rows i None g ]))
 
-pub cleared_more : {A : Type 0} (rows : List (Option A)) (j : ℕ) → j < length rows → ((i : ℕ) → i < j → get_or rows i None ≡ None)
-    → (i : ℕ) → i < j + 1 → get_or (set rows j None) i None ≡ None
-cleared_more rows j h f i g =
-    elim (cases_eq i j) [
-      | inl e ↦ subst (λ (z : ℕ). get_or (set rows j None) z None ≡ None) (sym e) (get_or-set_same rows j None None h)
-      | inr e ↦ get_or-set_other rows j i None None e ∙ f i (omega arith)
-    ]
-
 -- a row settled, and the arcs relaxed
 pub view_settled : (k : ℕ) (rows : Rows) (r : ℕ) (l : Label) → 0 < k → r < length rows → view k (set rows r (Some (settle l))) ≡ put (view k rows) (place_of k r) (settle l)
 view_settled k rows r l pos h =
@@ -209,14 +202,14 @@ pub begun_legs : (k : ℕ) (rows : Rows) (o : Place) (t : ℕ) → view k rows �
 begun_legs k rows o t e q l h =
     elim (put_cases (λ _. None) o (record { second = t; legs = 0; arc = 0; state = 0; settled = false }) q l (sym (ap (λ (T : Table). T q) e) ∙ h)) [
       | inl x ↦ let y : l.legs ≡ 0 = ap Label.legs x.1 in omega arith
-      | inr x ↦ absurd (not_none l x.1)
+      | inr x ↦ absurd (none-some l x.1)
     ]
 
 pub begun_unmet : (w : World) (target : ℕ) (o : Place) (t : ℕ) → Unmet w target (begun o t)
 begun_unmet w target o t q l h s ends =
     elim (put_cases (λ _. None) o (record { second = t; legs = 0; arc = 0; state = 0; settled = false }) q l h) [
       | inl x ↦ both_ways l.settled (ap Label.settled x.1) s
-      | inr x ↦ not_none l x.1
+      | inr x ↦ none-some l x.1
     ]
 
 pub legs_small : (k : ℕ) (rows : Rows) (r : ℕ) (l : Label) → 0 < k → length rows < 2 ^ 31 → LegsBound k rows → get_or rows r None ≡ Some l → l.legs < 2 ^ 31

@@ -1,5 +1,6 @@
 -- One place of a table written, an offer made, and an offer accepted.
 use Rattle.std.proofs.Common.{◌≡◌, ℕ, suc, ◌<◌, Bool, true, false, cond, eqb, ◌⊎◌, List, length, Some, None, Option, sym, refl, ap, ◌∙◌, subst, inl, inr, add-one, arith}
+use Rattle.std.proofs.lemmas.Option.{none-some, same_Some}
 use Rattle.std.specs.List.{slice_get}
 use Rattle.std.proofs.lemmas.Option.{slice_get_past}
 use Rattle.std.proofs.lemmas.Map.{update_same, update_other}
@@ -10,10 +11,10 @@ use Rattle.model.specs.declared.network.Place.{Place}
 use Rattle.model.specs.Trips.{World, Rides, Upto4}
 use Rattle.labels.specs.Table.{Label, Table, same_place, put, better, keep, offered, Offer, offer_arrived, offer_spelled, offer_arc, offer, accept}
 use Rattle.model.proofs.Unique.{place_is}
-use Rattle.model.proofs.Options.{some_is, not_none, one_some}
+use Rattle.model.proofs.Options.{one_some}
 
 pub nth_below : {A : Type 0} (xs : List A) (i : ℕ) (x : A) → slice_get xs i ≡ Some x → i < length xs
-nth_below xs i x e = elim (cases_lt i (length xs)) [ inl h ↦ h | inr h ↦ absurd (not_none x (sym (slice_get_past xs i h) ∙ e)) ]
+nth_below xs i x e = elim (cases_lt i (length xs)) [ inl h ↦ h | inr h ↦ absurd (none-some x (sym (slice_get_past xs i h) ∙ e)) ]
 
 pub same_place_is : (p q : Place) → same_place p q ≡ true → p ≡ q
 same_place_is p q e =
@@ -77,23 +78,23 @@ pub record Offered (w : World) (p : Place) (l : Label) (i : ℕ) (f : Offer) : T
 module _ (w : World) (p : Place) (l : Label) (i : ℕ) (f : Offer) where
   arrived_is : (x : Arc) (s : ℕ) (a : Option ℕ) → slice_get w.arcs i ≡ Some x → x.tail ≡ p.stop → w.next p.state x.label ≡ Some s
       → w.answer x.service l.second ≡ a → offer_arrived p l i (record { stop = x.head; state = s }) a ≡ Some f → Offered w p l i f
-  arrived_is x s None n h k g e = absurd (not_none f e)
+  arrived_is x s None n h k g e = absurd (none-some f e)
   arrived_is x s (Some a) n h k g e =
-      subst (λ (z : Offer). Offered w p l i z) (some_is (record { at = record { stop = x.head; state = s }; label = offered p l i a }) f e)
+      subst (λ (z : Offer). Offered w p l i z) (same_Some (record { at = record { stop = x.head; state = s }; label = offered p l i a }) f e)
       (record { rides = record { along = x; numbered = n; leaves = h; reaches = refl; spells = k; served = g }; legs = add-one l.legs; arc = refl; state = refl; settled = refl })
 
   spelled_is : (x : Arc) (s : Option ℕ) → slice_get w.arcs i ≡ Some x → x.tail ≡ p.stop → w.next p.state x.label ≡ s
       → offer_spelled w p l i x s ≡ Some f → Offered w p l i f
-  spelled_is x None n h k e = absurd (not_none f e)
+  spelled_is x None n h k e = absurd (none-some f e)
   spelled_is x (Some s) n h k e = arrived_is x s (w.answer x.service l.second) n h k refl e
 
   tail_is : (x : Arc) (b : Bool) → slice_get w.arcs i ≡ Some x → eqb x.tail p.stop ≡ b
       → cond b (offer_spelled w p l i x (w.next p.state x.label)) None ≡ Some f → Offered w p l i f
   tail_is x true n h e = spelled_is x (w.next p.state x.label) n (eqb-true x.tail p.stop h) refl e
-  tail_is x false n h e = absurd (not_none f e)
+  tail_is x false n h e = absurd (none-some f e)
 
   arc_is : (x : Option Arc) → slice_get w.arcs i ≡ x → offer_arc w p l i x ≡ Some f → Offered w p l i f
-  arc_is None n e = absurd (not_none f e)
+  arc_is None n e = absurd (none-some f e)
   arc_is (Some x) n e = tail_is x (eqb x.tail p.stop) n refl e
 
 pub offer_rides : (w : World) (p : Place) (l : Label) (i : ℕ) (f : Offer) → offer w p l i ≡ Some f → Offered w p l i f
@@ -119,12 +120,12 @@ pub record Accepted (T : Table) (x : Option Offer) (U : Table) : Type 0 where
 
 keep_cases : (x : Option Label) (c : Label)
     → ((keep x c ≡ c) × ((l : Label) → x ≡ Some l → Upto c l)) ⊎ ((x ≡ Some (keep x c)) × Upto (keep x c) c)
-keep_cases None c = inl (refl, λ l e. absurd (not_none l e))
+keep_cases None c = inl (refl, λ l e. absurd (none-some l e))
 keep_cases (Some l) c = go (better c l) refl
   where
     go : (b : Bool) → better c l ≡ b
         → ((cond b c l ≡ c) × ((m : Label) → Some l ≡ Some m → Upto c m)) ⊎ ((Some l ≡ Some (cond b c l)) × Upto (cond b c l) c)
-    go true e = inl (refl, λ m h. subst (λ (z : Label). Upto c z) (some_is l m h) (better_true c l e))
+    go true e = inl (refl, λ m h. subst (λ (z : Label). Upto c z) (same_Some l m h) (better_true c l e))
     go false e = inr (refl, better_false c l e)
 
 keep_new : (x : Option Label) (c : Label) → Upto (keep x c) c
@@ -171,7 +172,7 @@ module _ (T : Table) (f : Offer) where
       | inr h ↦ (l, put_apart T f.at best q h ∙ e, upto_itself l)
     ];
     taken = λ q l e.
-        let g : f ≡ record { at = q; label = l } = some_is f (record { at = q; label = l }) e in
+        let g : f ≡ record { at = q; label = l } = same_Some f (record { at = q; label = l }) e in
         (best, best_at q (λ i. (sym g i).at), subst (λ (z : Label). Upto best z) (λ i. (g i).label) (keep_new (T f.at) f.label));
   }
 
@@ -181,6 +182,6 @@ accept_is T None =
     record {
       from = λ q m e. inl e;
       kept = λ q l e. (l, e, upto_itself l);
-      taken = λ q l e. absurd (not_none (record { at = q; label = l }) e);
+      taken = λ q l e. absurd (none-some (record { at = q; label = l }) e);
     }
 accept_is T (Some f) = accept_some T f

@@ -10,8 +10,10 @@ use model::Place;
 pub struct Label {
     pub second: u32,
     pub legs: u32,
+    // the label before is found by these in the table that is lent, since there is no heap to hold it
     pub arc: u32,
     pub state: u32,
+    // no enum of waiting and settled labels: the rest means the same in both, and is asked for without regard to it
     pub settled: bool,
 }
 
@@ -27,24 +29,14 @@ impl Label {
     pub fn is_before(self, other: Label) -> bool
         ensures { result ≡ better_than self other }
     {
-        if self.second != other.second {
-            self.second < other.second
-        } else if self.legs != other.legs {
-            self.legs < other.legs
-        } else if self.arc != other.arc {
-            self.arc < other.arc
-        } else {
-            self.state < other.state
-        }
+        let rank = (self.second, self.legs, self.arc, self.state);
+        rank < (other.second, other.legs, other.arc, other.state)
     }
 
     /// Whether the label improves on what a row of the table has.
     pub fn improves(self, row: Option<Label>) -> bool
         ensures { result ≡ improves_on row self }
     {
-        match row {
-            Some(known) => self.is_before(known),
-            None => true,
-        }
+        row.is_none_or(|known| self.is_before(known))
     }
 }

@@ -10,6 +10,7 @@ pub fn theorems_hold() -> bool
     ensures one_walk_beats_two { OneWalkBeatsTwo }
     ensures two_walks_to_a_boat { TwoWalksToABoat }
 {
+    // a value and no empty body: the answer is promised, and an edit can turn it
     let proved = true;
     proved
 }

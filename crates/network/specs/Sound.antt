@@ -4,7 +4,7 @@ use Rattle.model.specs.Rules.{label_count}
 use Rattle.model.specs.declared.network.Arc.{Arc}
 use Rattle.model.specs.declared.refusal.Refusal.{Refusal}
 use Rattle.model.specs.declared.refusal.Refusal.TheVariants as refusal
-use Rattle.network.specs.declared.fault.ArcRange.{ArcRange}
+use Rattle.std.specs.declared.ops.Range.{Range}
 use Rattle.network.specs.declared.fault.NetworkFault.{NetworkFault}
 use Rattle.network.specs.declared.fault.NetworkFault.TheVariants.{StopCount, ArcCount, ArcField, TailFalls}
 
@@ -85,6 +85,12 @@ pub record Above (arcs : List Arc) (stop n : ℕ) : Type 0 where
   pub within : n ≤ length arcs
   pub after : (k : ℕ) (d : Arc) → n ≤ k → k < length arcs → stop ≤ (get_or arcs k d).tail
 
+-- the cut at the stop is in the range, or where that ends
+pub record Around (arcs : List Arc) (stop : ℕ) (range : Range ℕ) : Type 0 where
+  pub ordered : range.start ≤ range.end
+  pub lower : Below arcs stop range.start
+  pub higher : Above arcs stop range.end
+
 -- no tail of the first n arcs is above the stop
 abbrev pub NoneAbove : List Arc → ℕ → ℕ → Type 0
 NoneAbove arcs stop n = (k : ℕ) (d : Arc) → k < n → (get_or arcs k d).tail < stop + 1
@@ -96,10 +102,10 @@ pub record Strides (arcs : List Arc) (stop stride cut : ℕ) : Type 0 where
   pub past : (d : Arc) → cut + stride ≤ length arcs → stop < (get_or arcs (cut + (stride - 1)) d).tail
 
 -- the arcs of the range leave the stop, those before it leave lower stops, and those after it leave higher ones
-pub record Leaving (arcs : List Arc) (stop : ℕ) (range : ArcRange) : Type 0 where
-  pub ordered : range.first ≤ range.end
+pub record Leaving (arcs : List Arc) (stop : ℕ) (range : Range ℕ) : Type 0 where
+  pub ordered : range.start ≤ range.end
   pub within : range.end ≤ length arcs
-  pub lower : (k : ℕ) (d : Arc) → k < range.first → (get_or arcs k d).tail < stop
-  pub leave : (k : ℕ) (d : Arc) → range.first ≤ k → k < range.end → (get_or arcs k d).tail ≡ stop
+  pub lower : (k : ℕ) (d : Arc) → k < range.start → (get_or arcs k d).tail < stop
+  pub leave : (k : ℕ) (d : Arc) → range.start ≤ k → k < range.end → (get_or arcs k d).tail ≡ stop
   pub higher : (k : ℕ) (d : Arc) → range.end ≤ k → k < length arcs → stop < (get_or arcs k d).tail
-  pub all : (k : ℕ) (d : Arc) → k < length arcs → (get_or arcs k d).tail ≡ stop → (range.first ≤ k) × (k < range.end)
+  pub all : (k : ℕ) (d : Arc) → k < length arcs → (get_or arcs k d).tail ≡ stop → (range.start ≤ k) × (k < range.end)

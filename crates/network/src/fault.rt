@@ -1,11 +1,11 @@
-//! What can be wrong with a list of arcs, and parts of such a list.
+//! What can be wrong with a list of arcs.
 ghost use Rattle.std.specs.Prelude.{◌≡◌};
 ghost use Rattle.network.specs.Sound.{refusal_of};
 
 use model::Refusal;
 
 /// Why a network is refused; the index is that of the first arc at fault.
-#[derive(Clone, Copy, Drop, PartialEq, Eq)]
+#[derive(Clone, Copy, Debug, Drop, PartialEq, Eq)]
 pub enum NetworkFault {
     StopCount,
     ArcCount,
@@ -13,23 +13,16 @@ pub enum NetworkFault {
     TailFalls(usize),
 }
 
-impl NetworkFault {
+impl From<NetworkFault> for Refusal {
     /// The refusal by which the fault is reported.
-    pub fn refusal(self) -> Refusal
-        ensures { result ≡ refusal_of self }
-    {
-        match self {
+    ghost from_gives = { λ fault refusal. refusal ≡ refusal_of fault };
+
+    fn from(fault: NetworkFault) -> Refusal {
+        match fault {
             NetworkFault::StopCount => Refusal::StopCount,
             NetworkFault::ArcCount => Refusal::ArcCount,
             NetworkFault::ArcField(_) => Refusal::ArcField,
             NetworkFault::TailFalls(_) => Refusal::TailFalls,
         }
     }
-}
-
-/// The arcs from the number `first` on and before the number `end`.
-#[derive(Clone, Copy, Drop, PartialEq, Eq)]
-pub struct ArcRange {
-    pub first: usize,
-    pub end: usize,
 }

@@ -1,13 +1,10 @@
 //! The network value.
-ghost use Rattle.std.specs.Prelude.{◌≡◌, ◌<◌, ◌≤◌, [], length, Ok, Err, Decides};
-ghost use Rattle.network.specs.Sound.{Counted, Fit, Ascending, InRange, Tested, Cut, Below, Above, NoneAbove, Strides, Leaving};
+ghost use Rattle.std.specs.Prelude.{◌≡◌, ◌<◌, ◌≤◌, [], length, Ok, Err, IfSome, Decides};
+ghost use Rattle.network.specs.Sound.{Counted, Fit, Ascending, InRange, Tested, Sound, FirstFault, Cut, Below, Above, Around, NoneAbove, Strides, Leaving};
 
-use crate::fault::{ArcRange, NetworkFault};
-use model::{Arc, LABELS};
-
-const MOST_STOPS: u32 = 1_024;
-
-const MOST_ARCS: usize = 8_192;
+use crate::fault::NetworkFault;
+use model::{Arc, LABELS, MOST_ARCS, MOST_STOPS};
+use std::ops::Range;
 
 /// The arcs that leave a stop are gone over so many at a time.
 const STRIDE: usize = 8;
@@ -42,10 +39,16 @@ impl<'a> Network<'a> {
         ensures answer { Tested result stops arcs.now }
         ensures laid { elim result [ Ok _ ↦ (self.new.stops ≡ stops) × (self.new.arcs.now ≡ arcs.now) | Err _ ↦ self.new ≡ self.old ] }
     {
-        tested(stops, arcs)?;
-        self.stops = stops;
-        self.arcs = arcs;
+        *self = Network::new(stops, arcs)?;
         Ok(())
+    }
+
+    /// The network of these stops and arcs, or the first fault.
+    pub fn new(stops: u32, arcs: &'a [Arc]) -> Result<Network<'a>, NetworkFault>
+        ensures made { elim result [ Ok network ↦ (network.stops ≡ stops) × (network.arcs.now ≡ arcs.now) × Sound stops arcs.now | Err fault ↦ FirstFault fault stops arcs.now ] }
+    {
+        tested(stops, arcs)?;
+        Ok(Network { stops, arcs })
     }
 
     /// How many stops there are.
@@ -63,54 +66,59 @@ impl<'a> Network<'a> {
     }
 
     /// The arcs that leave a stop: those and no others. None leaves a stop that is not there.
-    pub fn leaving(self, stop: u32) -> ArcRange
+    pub fn leaving(self, stop: u32) -> Range<usize>
         ensures { Leaving self.entry.arcs.now stop result }
     {
         let first = self.first_from(stop);
         let near = self.strides(stop, first, STRIDE);
         let end = self.strides(stop, near, 1);
-        ArcRange { first, end }
+        first..end
     }
 
-    /// The number after an arc whose tail is below `stop`, or 0 where it is not or there is no such arc.
-    fn below(self, stop: u32, i: usize) -> usize
-        ensures { Below self.entry.arcs.now stop result }
+    /// The number after the arc `i`, where there is that arc and its tail is below `stop`.
+    fn below(self, stop: u32, i: usize) -> Option<usize>
+        ensures { IfSome result (Below self.entry.arcs.now stop) }
     {
+        // by index once it is known to be there: `get` and `then_some` are no plainer, and want a proof of their own
         if i < self.arcs.len() && self.arcs[i].tail < stop {
-            i + 1
+            Some(i + 1)
         } else {
-            0
+            None
         }
     }
 
-    /// The number of an arc whose tail is not below `stop`, or the count of arcs where it is or there is no such arc.
-    fn above(self, stop: u32, i: usize) -> usize
-        ensures { Above self.entry.arcs.now stop result }
+    /// The number `i`, where there is an arc of that number and its tail is not below `stop`.
+    fn not_below(self, stop: u32, i: usize) -> Option<usize>
+        ensures { IfSome result (Above self.entry.arcs.now stop) }
     {
+        // as above
         if i < self.arcs.len() && self.arcs[i].tail >= stop {
-            i
+            Some(i)
         } else {
-            self.arcs.len()
+            None
         }
     }
 
-    /// The number of the first arc whose tail is not below `stop`, or the count of arcs. Where arcs are spread over the stops it lies near
-    /// the stop's share of them, and the search begins there.
+    /// Numbers among which the first arc is whose tail is not below `stop`, or which end at it. Where arcs are spread over the stops it lies
+    /// near the stop's share of them, and they are few.
+    fn around(self, stop: u32) -> Range<usize>
+        ensures { Around self.entry.arcs.now stop result }
+    {
+        let share = (stop as usize).saturating_mul(self.arcs.len()) / self.stops as usize;
+        let start = self.below(stop, share.saturating_sub(REACH)).unwrap_or(0);
+        let end = self
+            .not_below(stop, share.saturating_add(REACH))
+            .unwrap_or(self.arcs.len());
+        start..end
+    }
+
+    /// The number of the first arc whose tail is not below `stop`, or the count of arcs.
     fn first_from(self, stop: u32) -> usize
         ensures { Cut self.entry.arcs.now stop result }
     {
-        let guess = (stop as usize).saturating_mul(self.arcs.len()) / self.stops as usize;
-        let mut low = self.below(stop, guess.saturating_sub(REACH));
-        let mut high = self.above(stop, guess.saturating_add(REACH));
-        while low < high {
-            let middle = low + (high - low) / 2;
-            if self.arcs[middle].tail < stop {
-                low = middle + 1;
-            } else {
-                high = middle;
-            }
-        }
-        low
+        let around = self.around(stop);
+        let start = around.start;
+        start + self.arcs[around].partition_point(|arc| arc.tail < stop)
     }
 
     /// Goes on from a number over arcs whose tails are not above `stop`, so many at a time.
@@ -119,6 +127,7 @@ impl<'a> Network<'a> {
         ensures { Strides self.entry.arcs.now stop stride result }
     {
         let mut end = from;
+        // leaps by a stride, with no index counted; a second search by halves is slower, as docs/BENCH.md has it
         while self.arcs.len() - end >= stride && self.arcs[end + (stride - 1)].tail <= stop {
             end += stride;
         }
@@ -133,7 +142,7 @@ fn tested(stops: u32, arcs: &[Arc]) -> Result<(), NetworkFault>
     if stops < 1 || stops > MOST_STOPS {
         return Err(NetworkFault::StopCount);
     }
-    if arcs.len() > MOST_ARCS {
+    if arcs.len() > MOST_ARCS as usize {
         return Err(NetworkFault::ArcCount);
     }
     let mut low = 0;

@@ -9,7 +9,7 @@ use Rattle.meanings.specs.Timetables.{caught, no_connection, Rising}
 use Rattle.poster.specs.declared.departure.Departure.{Departure}
 use Rattle.poster.specs.Boards.{Listing}
 use Rattle.poster.specs.Merging.{departure_at, At, Added, line, left, on, DueOn, Begun}
-use Rattle.poster.specs.Orders.{has_front, has_behind}
+use Rattle.queue.proofs.Facts.{has_front, has_behind}
 use Rattle.poster.proofs.Lines.{caught_few, first_in_time, in_time_from}
 use Rattle.poster.proofs.Merges.{on_none}
 

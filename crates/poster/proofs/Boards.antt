@@ -4,7 +4,7 @@ use Rattle.std.proofs.ByRecursion.{all-has, All-weaker}
 use Rattle.std.proofs.lemmas.Bool.{cases_lt}
 use Rattle.model.specs.declared.tables.Connection.{Connection}
 use Rattle.meanings.specs.Timetables.{no_connection}
-use Rattle.network.specs.declared.fault.ArcRange.{ArcRange}
+use Rattle.std.specs.declared.ops.Range.{Range}
 use Rattle.network.specs.Sound.{Leaving}
 use Rattle.books.proofs.Departing.{no_rows}
 use Rattle.poster.specs.declared.departure.Departure.{Departure}
@@ -56,19 +56,19 @@ module _ (l : Listing) where
   }
 
   -- the arcs of the range are those that leave the stop
-  module _ (range : ArcRange) (leaving : Leaving l.arcs l.stop range) where
-    to_leaves : (d : Departure) → DueOn l (Between range.first range.end) d → DueOn l (Leaves l) d
+  module _ (range : Range ℕ) (leaving : Leaving l.arcs l.stop range) where
+    to_leaves : (d : Departure) → DueOn l (Between range.start range.end) d → DueOn l (Leaves l) d
     to_leaves d p =
         let within : range.end ≤ length l.arcs = leaving.within in
-        let a : Between range.first range.end d.arc = p.among in
+        let a : Between range.start range.end d.arc = p.among in
         record { among = (omega arith, leaving.leave d.arc no_arc a.0 a.1); inside = p.inside; departs = p.departs; in_time = p.in_time }
 
-    from_leaves : (d : Departure) → DueOn l (Leaves l) d → DueOn l (Between range.first range.end) d
+    from_leaves : (d : Departure) → DueOn l (Leaves l) d → DueOn l (Between range.start range.end) d
     from_leaves d p = record { among = leaving.all d.arc no_arc p.among.0 p.among.1; inside = p.inside; departs = p.departs; in_time = p.in_time }
 
-    pub begun_leaving : (q : List Departure) (count : ℕ) → Begun l (Between range.first range.end) q count → Begun l (Leaves l) q count
+    pub begun_leaving : (q : List Departure) (count : ℕ) → Begun l (Between range.start range.end) q count → Begun l (Leaves l) q count
     begun_leaving q count b = record {
-      due = All-weaker (DueOn l (Between range.first range.end)) (DueOn l (Leaves l)) to_leaves q b.due;
+      due = All-weaker (DueOn l (Between range.start range.end)) (DueOn l (Leaves l)) to_leaves q b.due;
       one_each = b.one_each;
       ahead = λ d p. b.ahead d (from_leaves d p);
       counted = b.counted;

@@ -12,7 +12,8 @@ use Rattle.poster.specs.declared.departure.PosterRow.{PosterRow}
 use Rattle.poster.specs.Before.{departure_before}
 use Rattle.poster.specs.Boards.{Listing}
 use Rattle.poster.specs.Merging.{departure_at, line, left, on, DueOn, Begun, Listed, AllListed}
-use Rattle.poster.specs.Orders.{order, lex_next, lex_other, has_cases, has_front, has_behind, all_both, ascending_push, LeastFirst, least_first}
+use Rattle.queue.proofs.Facts.{has_cases, has_front, has_behind}
+use Rattle.poster.specs.Orders.{order, lex_next, lex_other, all_both, ascending_push, LeastFirst, least_first}
 
 -- ---- how many of a list are on an arc
 

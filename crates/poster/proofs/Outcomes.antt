@@ -1,8 +1,9 @@
 -- What a poster answers.
 use Rattle.std.proofs.Common.{◌≡◌, ℕ, ◌<◌, ◌≤◌, List, ◌++◌, map, length, drop, Some, None, Ok, Err, Result, sym, refl, ◌∙◌, arith}
+use Rattle.std.proofs.lemmas.Option.{none-some, same_Some}
 use Rattle.model.specs.declared.refusal.Refusal.{Refusal}
 use Rattle.model.specs.declared.refusal.Refusal.TheVariants.{RowsShort}
-use Rattle.model.proofs.Options.{not_none, not_ok, some_is}
+use Rattle.model.proofs.Options.{not_ok}
 use Rattle.poster.specs.declared.departure.Departure.{Departure}
 use Rattle.poster.specs.declared.departure.PosterRow.{PosterRow}
 use Rattle.poster.specs.Boards.{Listing, Board, row_of}
@@ -38,15 +39,15 @@ module _ (l : Listing) (board : List Departure) (is : Board l board) (rows : Lis
 module _ (stops : ℕ) (l : Listing) (slots : List Departure) (rows : List PosterRow) where
   pub posted_refused : (f : Refusal) → refusal_of stops l.arcs l.stop l.second (length slots) ≡ Some f → Posted stops l slots slots rows rows (Err f)
   posted_refused f e = record {
-    refused_by_tests = λ g h. let same : f ≡ g = some_is f g (sym e ∙ h) in ((λ i. Err (same i)), refl, refl);
-    past_tests = λ h. absurd (not_none f (sym h ∙ e));
+    refused_by_tests = λ g h. let same : f ≡ g = same_Some f g (sym e ∙ h) in ((λ i. Err (same i)), refl, refl);
+    past_tests = λ h. absurd (none-some f (sym h ∙ e));
     sizes = (refl, refl);
   }
 
   pub posted_past : (slots' : List Departure) (rows' : List PosterRow) (result : Result ℕ Refusal) → refusal_of stops l.arcs l.stop l.second (length slots) ≡ None
       → length slots' ≡ length slots → length rows' ≡ length rows → Outcome l rows rows' result → Posted stops l slots slots' rows rows' result
   posted_past slots' rows' result none s r outcome = record {
-    refused_by_tests = λ f e. absurd (not_none f (sym none ∙ e));
+    refused_by_tests = λ f e. absurd (none-some f (sym none ∙ e));
     past_tests = λ h. outcome;
     sizes = (s, r);
   }

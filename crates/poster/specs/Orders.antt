@@ -1,5 +1,5 @@
 -- The order of departures.
-use Rattle.std.specs.Prelude.{◌≡◌, ℕ, zero, suc, ◌+◌, ◌<◌, ◌≤◌, Bool, true, false, ◌⊎◌, List, [], ◌∷◌, ◌++◌, length, ◌≢◌, refl}
+use Rattle.std.specs.Prelude.{◌≡◌, ℕ, ◌+◌, ◌<◌, ◌≤◌, Bool, true, false, ◌⊎◌, List, [], ◌∷◌, ◌++◌, ◌≢◌, refl}
 use Rattle.std.proofs.Common.{sym, subst, ◌∙◌, inl, inr, arith}
 use Rattle.std.specs.List.{ContainsAt as Has, AllByRecursion}
 use Rattle.std.specs.List.Sorted.{IsPermutation}
@@ -11,6 +11,7 @@ use Rattle.queue.specs.Lex.{lex}
 use Rattle.queue.specs.Order.{Order}
 use Rattle.queue.proofs.Triples.{by_three}
 use Rattle.queue.proofs.Orders.{one_way, chain}
+use Rattle.queue.proofs.Facts.{has_cases, has_front, has_behind}
 use Rattle.poster.specs.declared.departure.Departure.{Departure}
 use Rattle.poster.specs.Before.{departure_before, Ascending}
 
@@ -24,17 +25,6 @@ lex_next p a q r h = grind (arith, nat_tests)
 -- of two departures on different arcs one is before the other
 pub lex_other : (p a q r b s : ℕ) → lex r b s p a q ≡ false → (b ≢ a) → lex p a q r b s ≡ true
 lex_other p a q r b s h ne = grind (arith, nat_tests)
-
--- the front of a list, or what is behind it
-pub has_cases : {X : Type 0} (x : X) (xs : List X) (y : X) → Has (x ∷ xs) y → (x ≡ y) ⊎ Has xs y
-has_cases x xs y (zero, lt, at) = inl (at y)
-has_cases x xs y (suc k, lt, at) = inr (k, omega arith, at)
-
-pub has_front : {X : Type 0} (x : X) (xs : List X) → Has (x ∷ xs) x
-has_front x xs = (0, omega arith, λ d. refl)
-
-pub has_behind : {X : Type 0} (x : X) (xs : List X) (y : X) → Has xs y → Has (x ∷ xs) y
-has_behind x xs y h = let lt : h.0 < length xs = h.1 in (suc h.0, omega arith, h.2)
 
 pub all_both : {X : Type 0} (P Q R : X → Type 0) → ((x : X) → P x → Q x → R x) → (xs : List X) → AllByRecursion P xs → AllByRecursion Q xs → AllByRecursion R xs
 all_both P Q R f [] p q = tt

@@ -6,7 +6,7 @@ use queue::Ranked;
 
 /// A connection on an arc, by its place in the arc's service, with its second of departure: by departure, arc and place in turn it comes
 /// out of the queue.
-#[derive(Clone, Copy, Drop)]
+#[derive(Clone, Copy, Debug, Default, Drop, PartialEq, Eq)]
 pub struct Departure {
     pub departure: u32,
     pub arc: u32,
@@ -19,14 +19,13 @@ impl Ranked for Departure {
     ghost order = { Orders.order };
 
     fn precedes(self, other: Departure) -> bool {
-        self.departure < other.departure
-            || self.departure == other.departure
-                && (self.arc < other.arc || self.arc == other.arc && self.place < other.place)
+        let rank = (self.departure, self.arc, self.place);
+        rank < (other.departure, other.arc, other.place)
     }
 }
 
 /// A row of a poster.
-#[derive(Clone, Copy, Drop, PartialEq, Eq)]
+#[derive(Clone, Copy, Debug, Default, Drop, PartialEq, Eq)]
 pub struct PosterRow {
     pub departure: u32,
     pub arrival: u32,

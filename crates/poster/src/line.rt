@@ -14,10 +14,7 @@ fn service(question: Question<'_, '_, '_>, arc: usize) -> Option<u32>
     ensures { Service (asked question.entry) arc result }
 {
     let number = question.network.arcs()[arc].service;
-    if number < question.first_service {
-        return None;
-    }
-    Some(number - question.first_service)
+    number.checked_sub(question.first_service)
 }
 
 /// The connections of an arc's service; none where the service is not one of the book's.
@@ -25,6 +22,7 @@ pub(crate) fn line<'t>(question: Question<'_, 't, '_>, arc: usize) -> &'t [Conne
     requires { arc < length question.network.arcs.now }
     ensures { result.now ≡ line (asked question.entry) arc }
 {
+    // with `map_or` the closure's result is not tied to the arc's connections by any proof that was found
     match service(question, arc) {
         None => &[],
         Some(service) => question.timetables.connections(service),
@@ -36,6 +34,7 @@ pub(crate) fn due_count(question: Question<'_, '_, '_>, arc: usize) -> usize
     requires { arc < length question.network.arcs.now }
     ensures { result ≡ length (caught question.entry.second (line (asked question.entry) arc)) }
 {
+    // no `map_or`, as above
     match service(question, arc) {
         None => 0,
         Some(service) => question
@@ -49,11 +48,9 @@ pub(crate) fn due_count(question: Question<'_, '_, '_>, arc: usize) -> usize
 pub(crate) fn departure_at(line: &[Connection], arc: u32, place: u32) -> Option<Departure>
     ensures { At line.now arc place result }
 {
-    if place as usize >= line.len() {
-        return None;
-    }
+    let connection = line.get(place as usize)?;
     Some(Departure {
-        departure: line[place as usize].departure,
+        departure: connection.departure,
         arc,
         place,
     })

@@ -5,7 +5,7 @@ ghost use Rattle.poster.specs.Posted.{Posted};
 use crate::departure::{Departure, PosterRow};
 use crate::merge::{begin, merge};
 use crate::question::Question;
-use crate::refusal::refusal;
+use crate::refusal::test;
 use books::Timetables;
 use model::Refusal;
 use network::Network;
@@ -14,6 +14,7 @@ use queue::Queue;
 /// Lists the connections of a timetable book on the arcs that leave a stop, at or after a second, by departure, arc and place in the
 /// service: the number of rows, and in the first rows of the poster the departure, arrival and arc of each. The book's services are numbered
 /// from `first_service` on; arcs of other services are passed over. The queue needs a slot for each arc that leaves the stop.
+// what is asked comes side by side, as hosts have it, and is a `Question` from here on
 pub fn poster(
     network: Network<'_>,
     timetables: &Timetables<'_>,
@@ -23,12 +24,10 @@ pub fn poster(
     slots: &mut [Departure],
     rows: &mut [PosterRow],
 ) -> Result<usize, Refusal>
-    ensures posted { Posted network.entry.stops (listing network.entry.arcs.now timetables.now.connections.now timetables.now.spans.now first_service stop second) slots.old slots.new rows.old rows.new result }
+    ensures posted { Posted network.entry.stops (listing network.entry.arcs.now timetables.now.rows.now timetables.now.spans.now first_service stop second) slots.old slots.new rows.old rows.new result }
     ensures boards_are_one { BoardsAreOne }
 {
-    if let Some(refused) = refusal(network, stop, second, slots.len()) {
-        return Err(refused);
-    }
+    test(network, stop, second, slots.len())?;
     let question = Question {
         network,
         timetables,

@@ -1,7 +1,6 @@
 //! The merge of the connections of several arcs through a queue.
 ghost use Rattle.std.specs.Prelude.{◌≡◌, ◌<◌, ◌≤◌, [], length, sum_by};
-ghost use Rattle.queue.specs.Contents.{contents, capacity, Ready};
-ghost use Rattle.poster.specs.Before.{departure_before};
+ghost use Rattle.queue.specs.Contents.{contents, capacity};
 ghost use Rattle.poster.specs.Asked.{asked};
 ghost use Rattle.poster.specs.Merging.{Added, Begun, Leaves, Merged, left};
 ghost use Rattle.poster.specs.Posted.{leaving_count};
@@ -13,10 +12,8 @@ use queue::Queue;
 
 /// Queues a departure, if there is one.
 fn enqueue(queue: &mut Queue<'_, Departure>, departure: Option<Departure>)
-    requires ready { Ready departure_before queue.old }
-    requires room { length (contents queue.old) < capacity queue.old }
+    requires { length (contents queue.old) < capacity queue.old }
     ensures added { Added (contents queue.old) departure (contents queue.new) }
-    ensures ready { Ready departure_before queue.new }
     ensures room { capacity queue.new ≡ capacity queue.old }
 {
     if let Some(next) = departure {
@@ -28,14 +25,13 @@ fn enqueue(queue: &mut Queue<'_, Departure>, departure: Option<Departure>)
 
 /// Queues the first departure that is due on each arc that leaves the stop, and gives the number of all departures that are due.
 pub(crate) fn begin(question: Question<'_, '_, '_>, queue: &mut Queue<'_, Departure>) -> usize
-    requires empty { (Ready departure_before queue.old) × (contents queue.old ≡ []) }
+    requires empty { contents queue.old ≡ [] }
     requires room { leaving_count question.network.arcs.now question.stop ≤ capacity queue.old }
-    ensures begun { Begun (asked question.entry) (Leaves (asked question.entry)) (contents queue.new) result }
-    ensures ready { Ready departure_before queue.new }
+    ensures { Begun (asked question.entry) (Leaves (asked question.entry)) (contents queue.new) result }
 {
     let range = question.network.leaving(question.stop);
     let mut count = 0;
-    for i in range.first..range.end {
+    for i in range {
         let connections = line(question, i);
         let due = due_count(question, i);
         let place = (connections.len() - due) as u32;
@@ -51,12 +47,12 @@ pub(crate) fn merge(
     queue: &mut Queue<'_, Departure>,
     rows: &mut [PosterRow],
 ) -> usize
-    requires ready { Ready departure_before queue.old }
     requires begun { Begun (asked question) (Leaves (asked question)) (contents queue.old) (sum_by (left (asked question)) (contents queue.old)) }
     requires fits { sum_by (left (asked question)) (contents queue.old) ≤ length rows.old }
     ensures merged { Merged (asked question.entry) rows.old rows.new result }
     ensures all { result ≡ sum_by (left (asked question.entry)) (contents queue.old) }
 {
+    // no `zip` with the rows: the queue is emptied by `pop`, and the count of the rows is the answer
     let mut written = 0;
     while let Some(next) = queue.pop() {
         let connections = line(question, next.arc as usize);

@@ -28,20 +28,7 @@ const fn row(departure: u32, arrival: u32, arc: u32) -> PosterRow {
 }
 
 const fn arc(tail: u32, head: u32, service: u32) -> Arc {
-    Arc {
-        tail,
-        head,
-        label: 1,
-        service,
-    }
-}
-
-const fn connection(departure: u32, arrival: u32) -> Connection {
-    Connection { departure, arrival }
-}
-
-const fn span(start: usize, len: usize) -> Span {
-    Span { start, len }
+    Arc::new(tail, head, 1, service)
 }
 
 // From stop 0 services before, of and after the book's, one of them on two arcs; from stop 1 two of the book's; from stop 2 none.
@@ -59,48 +46,31 @@ fn arcs() -> [Arc; 7] {
 
 fn connections() -> [Connection; 6] {
     [
-        connection(600, 2_400),
-        connection(900, 1_800),
-        connection(900, 1_700),
-        connection(600, 700),
-        connection(900, 1_000),
-        connection(100, 200),
+        Connection::new(600, 2_400),
+        Connection::new(900, 1_800),
+        Connection::new(900, 1_700),
+        Connection::new(600, 700),
+        Connection::new(900, 1_000),
+        Connection::new(100, 200),
     ]
 }
 
 fn spans() -> [Span; 3] {
-    [span(0, 3), span(3, 2), span(5, 1)]
+    [Span::new(0, 3), Span::new(3, 2), Span::new(5, 1)]
 }
 
 // Whether the first rows are the expected ones, and the others unused.
 fn holds(rows: &[PosterRow], expected: &[PosterRow]) -> bool {
-    if rows.len() < expected.len() {
-        return false;
-    }
-    for (i, found) in rows.iter().enumerate() {
-        let wanted = if i < expected.len() {
-            expected[i]
-        } else {
-            UNUSED_ROW
-        };
-        if *found != wanted {
-            return false;
-        }
-    }
-    true
+    rows.starts_with(expected)
+        && rows
+            .iter()
+            .skip(expected.len())
+            .all(|row| *row == UNUSED_ROW)
 }
 
 // Whether all slots are unused.
 fn unused(slots: &[Departure]) -> bool {
-    for slot in slots {
-        if slot.departure != UNUSED_SLOT.departure
-            || slot.arc != UNUSED_SLOT.arc
-            || slot.place != UNUSED_SLOT.place
-        {
-            return false;
-        }
-    }
-    true
+    slots.iter().all(|slot| *slot == UNUSED_SLOT)
 }
 
 // Whether the poster of a stop and a second has these rows.
@@ -128,7 +98,7 @@ fn lists(
     }
 }
 
-// The number of the refusal, if there is one and the rows, and up to 52 the slots too, are as they were.
+// The number of the refusal, since numbers are what is expected from outside, if there is one and the rows, and up to 52 the slots too, are as they were.
 fn refused(
     network: Network<'_>,
     timetables: &Timetables<'_>,

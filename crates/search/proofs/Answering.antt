@@ -1,5 +1,6 @@
 -- How a search ends is how the enquiry is answered.
 use Rattle.std.proofs.Common.{◌≡◌, ℕ, ◌<◌, ◌≤◌, List, ◌++◌, length, take, drop, Some, None, Ok, Err, Option, Result, sym, refl, ap, ◌∙◌, subst, inl, inr, arith}
+use Rattle.std.proofs.lemmas.Option.{none-some}
 use Rattle.model.specs.declared.enquiry.Enquiry.{Enquiry}
 use Rattle.model.specs.declared.enquiry.Found.{Found}
 use Rattle.model.specs.declared.refusal.Refusal.{Refusal}
@@ -9,7 +10,7 @@ use Rattle.model.specs.declared.network.Leg.{Leg}
 use Rattle.model.specs.Trips.{World, LawfulWorld, place, Journey}
 use Rattle.model.specs.Suits.{Suits, NoneSuits}
 use Rattle.model.specs.Asking.{rows_needed, refusal_of, TieRule, Answered, Outcome, Asked}
-use Rattle.model.proofs.Options.{not_ok, not_none}
+use Rattle.model.proofs.Options.{not_ok}
 use Rattle.model.proofs.Halves.{trip_suits, suits_trip}
 use Rattle.model.proofs.Extending.{journey_is_trip}
 use Rattle.model.proofs.Asks.{legs_are_one}
@@ -20,6 +21,7 @@ use Rattle.labels.proofs.Held.{Rests, search_rests}
 use Rattle.labels.proofs.Solving.{first_of, journey_of, traced_of, chosen, arrives, no_trip}
 use Rattle.labels.proofs.Tracing.{traced_length}
 use Rattle.engine.specs.declared.entry.Entry.{Entry}
+use Rattle.engine.specs.declared.turns.Reached.{Reached}
 use Rattle.engine.specs.Agenda.{Stopped, Exhausted, Ended, Searched}
 
 err_is : (f g : Refusal) → ◌≡◌ {A = Result Found Refusal} (Err f) (Err g) → f ≡ g
@@ -28,7 +30,7 @@ err_is f g e = cc
 found_is : (f g : Found) → ◌≡◌ {A = Result Found Refusal} (Ok f) (Ok g) → f ≡ g
 found_is f g e = cc
 
-ok_is : (x y : Option (ℕ × Label)) → ◌≡◌ {A = Result (Option (ℕ × Label)) Refusal} (Ok x) (Ok y) → x ≡ y
+ok_is : (x y : Option Reached) → ◌≡◌ {A = Result (Option Reached) Refusal} (Ok x) (Ok y) → x ≡ y
 ok_is x y e = cc
 
 not_same : NoJourney ≡ RowsShort → ⊥
@@ -123,8 +125,8 @@ module _ (w : World) (law : LawfulWorld w) (e : Enquiry) (T : Table) where
       }
 
 -- a search that gives a result is past the tests, and has ended so
-module _ (stops count : ℕ) (w : World) (e : Enquiry) (labels labels' : Rows) (slots slots' : List Entry) (r : Result (Option (ℕ × Label)) Refusal)
-    (x : Option (ℕ × Label)) (s : Searched stops count w e labels labels' slots slots' r) (was : r ≡ Ok x) where
+module _ (stops count : ℕ) (w : World) (e : Enquiry) (labels labels' : Rows) (slots slots' : List Entry) (r : Result (Option Reached) Refusal)
+    (x : Option Reached) (s : Searched stops count w e labels labels' slots slots' r) (was : r ≡ Ok x) where
   past : (f : Option Refusal) → refusal_of stops count w e (length labels) (length slots) ≡ f → f ≡ None
   past None h = refl
   past (Some f) h = absurd (not_ok x f (sym was ∙ (s.refused f h).0))
@@ -136,13 +138,13 @@ module _ (stops count : ℕ) (w : World) (e : Enquiry) (labels labels' : Rows) (
   ended =
       let y = s.searched passed in
       let same : y.0 ≡ x = ok_is y.0 x (sym y.1 ∙ was) in
-      subst (λ (z : Option (ℕ × Label)). Ended w (place e.start 0) e.second e.target (view w.states (take (rows_needed stops w) labels')) z) same y.2
+      subst (λ (z : Option Reached). Ended w (place e.start 0) e.second e.target (view w.states (take (rows_needed stops w) labels')) z) same y.2
 
   pub asked : (slip slip' : List Leg) (result : Result Found Refusal) → Outcome w e slip slip' result
       → (length labels' ≡ length labels) × (length slots' ≡ length slots) × (length slip' ≡ length slip)
       → Asked stops count w e labels labels' slots slots' slip slip' result
   asked slip slip' result o sizes = record {
-    refused_by_tests = λ f h. absurd (not_none f (sym passed ∙ h));
+    refused_by_tests = λ f h. absurd (none-some f (sym passed ∙ h));
     past_tests = λ _. o;
     sizes = sizes;
   }

@@ -5,5 +5,5 @@ mod answer;
 mod trace;
 
 pub use answer::ask;
-pub use engine::Entry;
+pub use engine::{Entry, Product, SearchTables};
 pub use labels::Label;

@@ -6,10 +6,12 @@ ghost use Rattle.labels.specs.declared.label.Label.{Label as LabelOf};
 ghost use Rattle.labels.specs.Table.{Traced};
 ghost use Rattle.labels.specs.Rows.{view, Before};
 
+use engine::Reached;
 use labels::Label;
 use model::{Arc, Leg};
 
 /// The label of the place that the last leg of a label leaves.
+// arcs, rows and states, and no `Product`: a trace asks no book and no rule
 fn before(arcs: &[Arc], labels: &[Option<Label>], states: u32, label: Label) -> Label
     requires size { length labels.now < 2 ^ 32 }
     requires known { (m : LabelOf) × Before arcs.now (view states labels.now) label m }
@@ -23,22 +25,22 @@ fn before(arcs: &[Arc], labels: &[Option<Label>], states: u32, label: Label) -> 
     found
 }
 
-/// Writes the legs that lead to the place at `target` in a state, which has the label, into the first rows of the slip, last to first.
+/// Writes the legs that lead to the place that is reached at `target` into the first rows of the slip, last to first.
 pub(crate) fn trace(
     arcs: &[Arc],
     labels: &[Option<Label>],
     states: u32,
     target: u32,
-    state: u32,
-    label: Label,
+    reached: Reached,
     slip: &mut [Leg],
 )
-    requires size { (length labels.now < 2 ^ 32) × (label.legs ≤ length slip.old) }
-    requires known { view states labels.now (place target state) ≡ Some label }
-    requires traced { (js : List LegOf) × Traced arcs.now (view states labels.now) js (place target state) }
-    ensures { (js : List LegOf) → Traced arcs.now (view states labels.now) js (place target state) → slip.new ≡ js ++ drop (length js) slip.old }
+    requires size { (length labels.now < 2 ^ 32) × (reached.label.legs ≤ length slip.old) }
+    requires known { view states labels.now (place target reached.state) ≡ Some reached.label }
+    requires traced { (js : List LegOf) × Traced arcs.now (view states labels.now) js (place target reached.state) }
+    ensures { (js : List LegOf) → Traced arcs.now (view states labels.now) js (place target reached.state) → slip.new ≡ js ++ drop (length js) slip.old }
 {
-    let mut last = label;
+    // the labels are followed back, and no index is counted
+    let mut last = reached.label;
     while last.legs > 0 {
         let earlier = before(arcs, labels, states, last);
         slip[earlier.legs as usize] = Leg {

@@ -1,10 +1,11 @@
 -- The arc and the row are there, since the label before is known.
 use Rattle.std.proofs.Common.{◌≡◌, ◌+◌, ◌*◌, ◌<◌, length, get_or, Some, None, sym, ◌∙◌, subst, rules}
+use Rattle.std.proofs.lemmas.Option.{none-some}
 use Rattle.model.specs.declared.network.Arc.{Arc}
 use Rattle.labels.specs.declared.label.Label.{Label}
 use Rattle.model.specs.Trips.{place}
 use Rattle.labels.specs.Rows.{view}
-use Rattle.model.proofs.Options.{not_none, one_some}
+use Rattle.model.proofs.Options.{one_some}
 use Rattle.labels.proofs.Tracing.{behind}
 use Rattle.search.proofs.trace.before.Goals as goal
 
@@ -30,7 +31,7 @@ pub unreachable-requires : goal.unreachable-requires
 unreachable-requires c =
     let b = behind c.args.arcs.now c.args.labels.now c.args.states no_arc c.args.label c.requires.known.0 c.requires.known.1 in
     let e : get_or c.args.labels.now ((get_or c.args.arcs.now c.args.label.arc no_arc).tail * c.args.states + c.args.label.state) None ≡ None = c.in_default.is in
-    not_none c.requires.known.0 (sym e ∙ b.found)
+    none-some c.requires.known.0 (sym e ∙ b.found)
 
 pub returns : goal.returns
 returns c =

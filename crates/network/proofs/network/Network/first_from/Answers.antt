@@ -1,15 +1,9 @@
-use Rattle.std.proofs.Common.{arith}
-use Rattle.network.proofs.Runs.{before_more, after_more, below_above}
+use Rattle.std.proofs.Common.{rules}
+use Rattle.std.specs.Prelude.{nat_lt}
+use Rattle.std.proofs.lemmas.List.Sorted.{IsPartitionPoint-from_clause}
+use Rattle.network.proofs.Runs.{parted, cut_within}
 use Rattle.network.proofs.network.Network.first_from.Goals as goal
 
-pub loop-low-init : goal.loop-low-init
-loop-low-init c =
-    (below_above c.args.self.arcs.now _ _ _ c.below-low.ensures c.above-high.ensures, c.above-high.ensures.within, c.below-low.ensures.before, c.above-high.ensures.after)
-
-pub loop-low-preserved-then-self-middle : goal.loop-low-preserved-then-self-middle
-loop-low-preserved-then-self-middle c =
-    (omega arith, c.loop-low.invariant.1, before_more c.args.self.arcs.now c.args.self.ascending _ _ _ (omega arith) c.if-self-middle.true, c.loop-low.invariant.3)
-
-pub loop-low-preserved : goal.loop-low-preserved
-loop-low-preserved c =
-    (omega arith, omega arith, c.loop-low.invariant.2, after_more c.args.self.arcs.now c.args.self.ascending _ _ _ (omega arith) c.if-self-middle.false)
+pub returns : goal.returns
+returns c =
+    cut_within _ _ c.around-around.result _ c.around-around.ensures c.partition_point.ensures.bound (IsPartitionPoint-from_clause (λ a. nat_lt a.tail c.args.stop) _ _ c.partition_point.ensures.partitioned (parted c.args.self.arcs.now c.args.self.ascending c.args.stop c.around-around.result) (λ x b f k. search rules))
