@@ -1,1 +1,2 @@
 pub mod PastEnd
+pub mod Lengths

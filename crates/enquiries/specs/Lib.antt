@@ -1,1 +1,2 @@
 pub mod Enquiries
+pub mod Handing

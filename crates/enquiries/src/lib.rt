@@ -4,20 +4,17 @@
 ghost use Rattle.std.specs.Prelude.{◌≡◌};
 ghost use Rattle.enquiries.specs.Enquiries.{enquiry as enquiry_format};
 
-use model::{Enquiry, Refusal};
+mod enquiries;
+
+pub use enquiries::Enquiries;
+use model::Enquiry;
 use wire::{Fault, Reader};
 
 /// The enquiry at a place of the input, and the place after it.
 pub fn enquiry_at(input: &[u8], at: usize) -> Result<(Enquiry, usize), Fault>
     ensures { result ≡ enquiry_format.read input.now at }
 {
-    if at > input.len() {
-        return Err(Fault {
-            refusal: Refusal::FileEndsEarly,
-            at,
-        });
-    }
-    let mut reader = Reader::starting(input, at);
+    let mut reader = Reader::starting_within(input, at)?;
     let start = reader.number()?;
     let target = reader.number()?;
     let second = reader.number()?;

@@ -1,5 +1,6 @@
 -- The lines that an enquiry is answered by, as bytes, without the line's end.
-use Rattle.std.specs.Prelude.{ℕ, cond, List, ◌++◌, codes, decimal, ◌==◌}
+use Rattle.std.specs.Prelude.{ℕ, cond, List, [], ◌∷◌, ◌++◌, take, Some, None, Ok, Err, Result, codes, decimal, ◌==◌}
+use Rattle.std.specs.List.{flat_map, slice_get}
 use Rattle.std.proofs.Math.Utf8.{encode}
 use Rattle.model.specs.declared.enquiry.Enquiry.{Enquiry}
 use Rattle.model.specs.declared.enquiry.Found.{Found}
@@ -34,6 +35,19 @@ leg_text l a =
 -- the number of a refusal
 abbrev pub refused_text : Refusal → List ℕ
 refused_text r = codes "refused " ++ decimal (number_of r)
+
+-- the line of a leg, after a line's end; a leg whose arc is not among the arcs has none
+abbrev pub leg_line : List Arc → Leg → List ℕ
+leg_line arcs l = elim (slice_get arcs l.arc) [ Some a ↦ 10 ∷ leg_text l a | None ↦ [] ]
+
+-- the lines of legs
+abbrev pub legs_text : List Arc → List Leg → List ℕ
+legs_text arcs ls = flat_map (leg_line arcs) ls
+
+-- an enquiry's slip: the journey and its legs, which are the first of the rows, or the refusal
+abbrev pub slip_text : Enquiry → Result Found Refusal → List Arc → List Leg → List ℕ
+slip_text e (Ok f) arcs rows = journey_text e f ++ legs_text arcs (take f.legs rows)
+slip_text e (Err r) arcs rows = refused_text r
 
 abbrev pub layer_text : Layer → List ℕ
 layer_text Number = codes "number"

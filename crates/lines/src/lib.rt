@@ -4,8 +4,12 @@
 ghost use Rattle.std.specs.Prelude.{◌≡◌, Some};
 ghost use Rattle.lines.specs.Lines.{journey_text, leg_text, letter_of, refused_text, fault_text, layer_text};
 
-use model::{Arc, Enquiry, Found, Layer, Leg, Refusal};
+mod slip;
+
+use model::{Arc, Enquiry, Found, Layer, Leg, Mode, Refusal};
+pub use slip::Slip;
 use std::fmt;
+use wire::Fault;
 
 /// The answer to an enquiry: its arrival and its number of legs.
 #[derive(Clone, Copy)]
@@ -31,17 +35,18 @@ impl fmt::Display for JourneyLine {
 }
 
 /// The letter of a label, or `-` for what is no label.
+// no `Display` of `Mode`: what is printed of it is settled here, and a label may be no mode
 pub fn letter(label: u32) -> char
     ensures { result ≡ letter_of label }
 {
-    match label {
-        0 => 'f',
-        1 => 'b',
-        2 => 's',
-        3 => 'r',
-        4 => 'c',
-        5 => 'l',
-        _ => '-',
+    match Mode::try_from(label) {
+        Ok(Mode::Foot) => 'f',
+        Ok(Mode::Bus) => 'b',
+        Ok(Mode::Ship) => 's',
+        Ok(Mode::Rail) => 'r',
+        Ok(Mode::Car) => 'c',
+        Ok(Mode::Link) => 'l',
+        Err(_) => '-',
     }
 }
 
@@ -80,6 +85,7 @@ impl fmt::Display for RefusedLine {
 }
 
 /// The name of a layer.
+// no `Display` of `Layer`, whose crate knows no output
 pub fn layer_name(layer: Layer) -> &'static str
     ensures { result.now ≡ layer_text layer }
 {
@@ -92,18 +98,15 @@ pub fn layer_name(layer: Layer) -> &'static str
 
 /// A fault in a file.
 #[derive(Clone, Copy)]
-pub struct FaultLine {
-    pub refusal: Refusal,
-    pub at: usize,
-}
+pub struct FaultLine(pub Fault);
 
 impl fmt::Display for FaultLine {
-    ghost output = { λ l. Some (fault_text l.refusal l.at) };
+    ghost output = { λ l. Some (fault_text l.0.refusal l.0.at) };
 
     fn fmt<W: fmt::Write>(&self, f: &mut fmt::Formatter<W>) -> fmt::Result {
-        let number = self.refusal.number();
-        let at = self.at;
-        let layer = layer_name(self.refusal.layer());
+        let number = self.0.refusal.number();
+        let at = self.0.at;
+        let layer = layer_name(self.0.layer());
         write!(f, "file {number} at {at} in {layer}")
     }
 }

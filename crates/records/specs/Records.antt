@@ -1,5 +1,5 @@
 -- What a reader of records has yet to hand out.
-use Rattle.std.specs.Prelude.{◌≡◌, ℕ, ◌+◌, ◌*◌, List, [], Some, None, Ok, Err, Option, Result}
+use Rattle.std.specs.Prelude.{◌≡◌, ℕ, ◌+◌, ◌*◌, ◌<◌, true, is_some, List, [], Some, None, Ok, Err, Option, Result}
 use Rattle.wire.specs.declared.fault.Fault.{Fault}
 use Rattle.wire.specs.Readers.{file}
 use Rattle.formats.specs.NetworkFile.{stop, walk, connection_count, connection, departed, point_count, point, passed, arc, left}
@@ -71,3 +71,9 @@ size (Roads n) = 98 * n + 8194
 size (Points service lists n before) = n + 1 + 98 * lists + 8194
 size (Arcs n last) = n + 1
 size End = 0
+
+-- a call that hands out the next record, or the first fault of the file; none after the last record and after a fault
+pub record HandsOut (old : Records) (r : Option (Result Record Fault)) (new : Records) : Type 0 where
+  pub says : rest old ≡ follows r (rest new) new.reader.at
+  pub falls : is_some r ≡ true → size new.section < size old.section
+  pub over : Over r new.section

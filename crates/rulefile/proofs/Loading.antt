@@ -1,5 +1,5 @@
 -- The rule that a file holds, from its marks and its table.
-use Rattle.std.proofs.Common.{◌≡◌, ℕ, ◌+◌, ◌*◌, ◌/◌, ◌%◌, ◌<◌, ◌≤◌, Bool, true, false, cond, ◌&&◌, eqb, ltb, leb, List, [], ◌∷◌, length, get_or, take, drop, Some, None, Ok, Err, Option, sym, refl, ap, ◌∙◌, subst, ⊎_elim, arith, drop_of_length-le, length-take, get_or-take}
+use Rattle.std.proofs.Common.{◌≡◌, ℕ, ◌+◌, ◌*◌, ◌/◌, ◌%◌, ◌<◌, ◌≤◌, Bool, true, false, cond, ◌&&◌, eqb, ltb, leb, List, [], ◌∷◌, length, get_or, take, drop, Some, None, Ok, Err, Option, Result, MatchResult, sym, refl, ap, ◌∙◌, subst, ⊎_elim, arith, drop_of_length-le, length-take, get_or-take}
 use lib.ListN.{get_or-eq_default}
 use Rattle.std.proofs.lemmas.Bool.{cases_lt, eqb-true}
 use Rattle.std.proofs.lemmas.Bool.Decides.{nat_tests}
@@ -7,19 +7,17 @@ use Rattle.model.specs.declared.refusal.Refusal.TheVariants.{FileEndsEarly, Rule
 use Rattle.automata.specs.Tables.{tabled, Closed}
 use Rattle.rules.specs.Faults.{SoundTable}
 use Rattle.formats.specs.declared.rule_step.RuleStep.{RuleStep}
-use Rattle.formats.specs.Contents.{RuleContents}
-use Rattle.formats.specs.RuleFile.{mark, marks, step, stepped, steps, parts_of, contents_of, FineRule, rule, leads_to, automaton_of}
+use Rattle.formats.specs.RuleFile.{mark, step, stepped, steps, contents_of, rule, leads_to, automaton_of}
 use Rattle.formats.proofs.RuleFile.{rule_lawful}
-use Rattle.formats.proofs.Chains.{reads_both, reads_both_first, reads_both_second, reads_mapped, reads_mapped_fault}
 use Rattle.wire.specs.declared.fault.Fault.{Fault}
-use Rattle.wire.specs.declared.reader.Reader.{Reader}
-use Rattle.wire.specs.Grammar.{and_then, both, many, FineAll}
+use Rattle.wire.specs.Grammar.{and_then, many, FineAll}
 use Rattle.wire.specs.Numbers.{groups, limited, decode}
 use Rattle.wire.specs.Places.{number_at, placed, wrong}
-use Rattle.wire.specs.Readers.{file, Reads}
-use Rattle.wire.proofs.Steps.{reads_ok, reads_err}
 use Rattle.rules.specs.declared.table.TableRule.{TableRule}
-use Rattle.rulefile.specs.Loading.{meaning, ending, Becomes, Loads}
+use Rattle.rules.specs.declared.fault.RuleFault.{RuleFault}
+use Rattle.rules.proofs.Faultless.{sound_not_at_fault}
+use Rattle.std.specs.Result.{IsErrAnd}
+use Rattle.rulefile.specs.Loading.{Made, meaning}
 use Rattle.rulefile.specs.declared.load.RuleTables.{RuleTables}
 use Rattle.rulefile.specs.Tables.{Shows, Tables}
 
@@ -76,34 +74,12 @@ module _ (k : ℕ) (few : k ≤ 16) (table : List (Option ℕ)) (xs : List RuleS
     pub rule_of_file : tabled k (take n table) ends ≡ automaton_of (contents_of (ends, xs))
     rule_of_file = λ j. record { states = sym long j; next = λ s x. next_entry s x j; ends = λ s. ends_entry s j }
 
--- the file, from its parts
-module _ {before middle after : Reader} (k : ℕ) (ends : List Bool) (long : length ends ≡ k) where
-  pub parts_read : (xs : List RuleStep) → Reads marks.read before middle (Ok ends) → Reads (steps k).read middle after (Ok xs) → rule.read (file before) before.at ≡ Ok (contents_of (ends, xs), after.at)
-  parts_read xs h t =
-      reads_ok (reads_mapped contents_of parts_of FineRule (both marks (λ ends. steps (length ends)))
-      (reads_both marks (λ ends. steps (length ends)) h refl (subst (λ n. Reads (steps n).read middle after (Ok xs)) (sym long) t) refl)) refl
-
-  pub steps_at_fault : (x : Fault) → Reads marks.read before middle (Ok ends) → Reads (steps k).read middle after (Err x) → rule.read (file before) before.at ≡ Err x
-  steps_at_fault x h t =
-      reads_err (reads_mapped_fault contents_of parts_of FineRule (both marks (λ ends. steps (length ends)))
-      (reads_both_second marks (λ ends. steps (length ends)) h refl (subst (λ n. Reads (steps n).read middle after (Err x)) (sym long) t) refl)) refl
-
-pub marks_at_fault : {before after : Reader} (x : Fault) → Reads marks.read before after (Err x) → rule.read (file before) before.at ≡ Err x
-marks_at_fault x h = reads_err (reads_mapped_fault contents_of parts_of FineRule (both marks (λ ends. steps (length ends))) (reads_both_first marks (λ ends. steps (length ends)) h refl)) refl
-
 -- a file that begins past the end of the bytes
 pub past_the_end : (bs : List ℕ) (at : ℕ) → length bs < at → rule.read bs at ≡ Err (wrong FileEndsEarly at)
 unfolding number_at decode groups limited
 past_the_end bs at past =
     let none : drop at bs ≡ [] = drop_of_length-le bs (omega arith) in
     ap (λ l. and_then (and_then (and_then (and_then (placed at (decode l)) (λ n q. cond (leb 1 n && leb n 16) (Ok (n, q)) (Err (wrong RuleField at)))) (λ n q. many (λ _. mark) (λ _ _. tt) tt n bs q)) (λ a q. and_then ((steps (length a)).read bs q) (λ b r. Ok ((a, b), r)))) (λ a q. Ok (contents_of a, q))) none
-
--- what a load says, where the file is read
-pub loads_fault : (bs : List ℕ) (at : ℕ) (before : TableRule) (x : Fault) → rule.read bs at ≡ Err x → Loads bs at before before (Err x)
-loads_fault bs at before x e = record { answer = ap ending (sym e); loaded = subst (λ s. Becomes s before before) (sym e) refl }
-
-pub loads_rule : (bs : List ℕ) (at : ℕ) (before after : TableRule) (contents : RuleContents) (end : ℕ) → rule.read bs at ≡ Ok (contents, end) → meaning after ≡ automaton_of contents → Loads bs at before after (Ok end)
-loads_rule bs at before after contents end e same = record { answer = ap ending (sym e); loaded = subst (λ s. Becomes s before after) (sym e) same }
 
 -- the tables of a file are sound, and they are its rule
 module _ (t : RuleTables) (xs : List RuleStep) (bs : List ℕ) (at end : ℕ) (read : rule.read bs at ≡ Ok (contents_of (take t.states t.ends, xs), end)) (tables : Tables t xs) where
@@ -118,3 +94,9 @@ module _ (t : RuleTables) (xs : List RuleStep) (bs : List ℕ) (at end : ℕ) (r
 
   pub tables_rule : tabled t.states (take (t.states * 6) t.next) (take t.states t.ends) ≡ automaton_of (contents_of (take t.states t.ends, xs))
   tables_rule = rule_of_file t.states tables.few t.next xs tables.shows steps_fine (t.states * 6) refl (take t.states t.ends) marks_long
+
+  -- the maker takes them
+  pub tables_taken : {D : Type 0} (P : RuleFault → D → Type 0) (r : Result TableRule RuleFault) (q : Result TableRule D) → Made t r → MatchResult r (λ x. q ≡ Ok x) (λ e. IsErrAnd q (P e)) →
+      (rule : TableRule) × (q ≡ Ok rule) × (meaning rule ≡ automaton_of (contents_of (take t.states t.ends, xs)))
+  tables_taken P (Ok made_rule) q made cases = (made_rule, cases, made ∙ tables_rule)
+  tables_taken P (Err f) q made cases = absurd (sound_not_at_fault f _ _ _ tables_sound made)

@@ -1,5 +1,5 @@
 -- What the loader of rule files does.
-use Rattle.std.specs.Prelude.{◌≡◌, ℕ, ◌*◌, List, take, Ok, Err, Result}
+use Rattle.std.specs.Prelude.{◌≡◌, ℕ, ◌*◌, List, take, Ok, Err, Result, IsOkAnd}
 use Rattle.model.specs.Rules.{Automaton}
 use Rattle.automata.specs.Tables.{tabled}
 use Rattle.rules.specs.declared.fault.RuleFault.{RuleFault}
@@ -19,6 +19,11 @@ meaning r = tabled r.states r.steps r.marks
 abbrev pub Made : RuleTables → Result TableRule RuleFault → Type 0
 Made t (Ok r) = meaning r ≡ tabled t.states (take (t.states * 6) t.next) (take t.states t.ends)
 Made t (Err f) = TableAtFault f t.states (take (t.states * 6) t.next) (take t.states t.ends)
+
+-- the rule that is read with the place after it, or the fault
+abbrev pub IsRuleOf : Step RuleContents → Result (TableRule × ℕ) Fault → Type 0
+IsRuleOf (Ok x) r = IsOkAnd r (λ p. (meaning p.0 ≡ automaton_of x.0) × (p.1 ≡ x.1))
+IsRuleOf (Err f) r = r ≡ Err f
 
 -- the place after a file, or its fault
 abbrev pub ending : Step RuleContents → Result ℕ Fault

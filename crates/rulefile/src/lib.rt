@@ -6,4 +6,4 @@ mod marks;
 mod step;
 mod steps;
 
-pub use load::load_rule;
+pub use load::{load_rule, read_rule};

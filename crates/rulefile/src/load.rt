@@ -1,15 +1,16 @@
 //! A rule file as a table rule.
 ghost use Rattle.std.specs.Prelude.{◌≡◌, ◌≤◌, length};
-ghost use Rattle.rulefile.specs.Loading.{Loads, Made};
+ghost use Rattle.formats.specs.RuleFile.{rule};
+ghost use Rattle.rulefile.specs.Loading.{IsRuleOf, Loads, Made};
 ghost use Rattle.rulefile.specs.Tables.{Holds};
 
-use crate::marks::{MAX_STATES, read_marks};
-use crate::steps::{LABELS, MAX_ENTRIES, read_steps};
-use model::Refusal;
-use rules::{RuleFault, TableRule};
+use crate::marks::read_marks;
+use crate::steps::read_steps;
+use model::{LABELS, Refusal};
+use rules::{MAX_ENTRIES, MAX_STATES, RuleFault, TableRule};
 use wire::{Fault, Reader};
 
-// What a rule file holds, as tables.
+/// What a rule file holds, as tables; they lie beside the number of states, since there is no heap here.
 #[derive(Clone, Copy, Drop)]
 struct RuleTables {
     states: u32,
@@ -17,7 +18,7 @@ struct RuleTables {
     next: [Option<u32>; MAX_ENTRIES],
 }
 
-// Reads a whole rule file.
+/// Reads a whole rule file.
 fn read_tables(reader: &mut Reader) -> Result<RuleTables, Fault>
     ensures { Holds reader.old reader.new result }
 {
@@ -27,7 +28,7 @@ fn read_tables(reader: &mut Reader) -> Result<RuleTables, Fault>
     Ok(RuleTables { states, ends, next })
 }
 
-// The rule of tables that are sound.
+/// The rule of tables that are sound.
 fn table_rule(tables: &RuleTables) -> Result<TableRule, RuleFault>
     requires some { 1 ≤ tables.now.states }
     requires few { tables.now.states ≤ 16 }
@@ -38,9 +39,22 @@ fn table_rule(tables: &RuleTables) -> Result<TableRule, RuleFault>
     let states = tables.states as usize;
     TableRule::new(
         tables.states,
-        &tables.next[..states * LABELS],
+        &tables.next[..states * LABELS as usize],
         &tables.ends[..states],
     )
+}
+
+/// The rule of the file that begins at a place of `file`, and the place after its last step; or the file's first fault.
+pub fn read_rule(file: &[u8], at: usize) -> Result<(TableRule, usize), Fault>
+    ensures { IsRuleOf (rule.read file.now at) result }
+{
+    let mut reader = Reader::starting_within(file, at)?;
+    let tables = read_tables(&mut reader)?;
+    let rule = table_rule(&tables).map_err(|fault| Fault {
+        refusal: Refusal::from(fault),
+        at,
+    })?;
+    Ok((rule, reader.place()))
 }
 
 /// Makes `rule` the rule of the file that begins at a place of `file`, and answers the place after its last step.
@@ -48,22 +62,7 @@ fn table_rule(tables: &RuleTables) -> Result<TableRule, RuleFault>
 pub fn load_rule(file: &[u8], at: usize, rule: &mut TableRule) -> Result<usize, Fault>
     ensures { Loads file.now at rule.old rule.new result }
 {
-    if at > file.len() {
-        return Err(Fault {
-            refusal: Refusal::FileEndsEarly,
-            at,
-        });
-    }
-    let mut reader = Reader::starting(file, at);
-    let tables = read_tables(&mut reader)?;
-    match table_rule(&tables) {
-        Ok(loaded) => {
-            *rule = loaded;
-            Ok(reader.place())
-        }
-        Err(fault) => Err(Fault {
-            refusal: fault.refusal(),
-            at,
-        }),
-    }
+    let (read, end) = read_rule(file, at)?;
+    *rule = read;
+    Ok(end)
 }

@@ -4,35 +4,27 @@ ghost use Rattle.formats.specs.RuleFile.{any_step, rises as follows, step as a_s
 ghost use Rattle.wire.specs.Readers.{Reads};
 
 use formats::RuleStep;
-use model::Refusal;
+use model::{LABELS, Refusal};
 use wire::{Fault, Reader};
 
-/// The labels of arcs are the numbers up to this one.
-pub const LAST_LABEL: u32 = 5;
-
-// Whether a step comes after the one before, if there is one: by state, then by label.
+/// Whether a step comes after the one before, if there is one: by state, then by label.
 fn rises(before: Option<RuleStep>, step: RuleStep) -> bool
     ensures { result ≡ follows before step }
 {
-    match before {
-        None => true,
-        Some(last) => {
-            last.state < step.state || (last.state == step.state && last.label < step.label)
-        }
-    }
+    before.is_none_or(|last| (last.state, last.label) < (step.state, step.label))
 }
 
-// A step, whatever came before it.
+/// A step, whatever came before it.
 fn read_any(reader: &mut Reader, states: u32) -> Result<RuleStep, Fault>
     ensures { Reads (any_step states).read reader.old reader.new result }
 {
     let state = reader.number_below(states, Refusal::RuleField)?;
-    let label = reader.number_in(0, LAST_LABEL, Refusal::RuleField)?;
+    let label = reader.number_in(0, LABELS - 1, Refusal::RuleField)?;
     let next = reader.number_below(states, Refusal::RuleField)?;
     Ok(RuleStep { state, label, next })
 }
 
-// The step after another, in a rule of so many states.
+/// The step after another, in a rule of so many states.
 pub(crate) fn read_step(
     reader: &mut Reader,
     states: u32,

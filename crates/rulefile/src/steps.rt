@@ -4,21 +4,18 @@ ghost use Rattle.rulefile.specs.Tables.{Tabulates};
 
 use crate::step::read_step;
 use formats::RuleStep;
+use model::LABELS;
+use rules::MAX_ENTRIES;
 use wire::{Fault, Reader};
 
-/// The number of labels.
-pub const LABELS: usize = 6;
-/// The entries of a rule of 16 states.
-pub const MAX_ENTRIES: usize = 96;
-
-// A table with no step.
+/// A table with no step.
 fn no_steps() -> [Option<u32>; MAX_ENTRIES]
     ensures { result ≡ replicate 96 None }
 {
     [None; MAX_ENTRIES]
 }
 
-// The steps of a rule of so many states, each as the entry of its state and label.
+/// The steps of a rule of so many states, each as the entry of its state and label.
 pub(crate) fn read_steps(
     reader: &mut Reader,
     states: u32,
@@ -31,7 +28,7 @@ pub(crate) fn read_steps(
     let count = reader.number()?;
     for _i in 0..count {
         let step = read_step(reader, states, before)?;
-        next[step.state as usize * LABELS + step.label as usize] = Some(step.next);
+        next[step.state as usize * LABELS as usize + step.label as usize] = Some(step.next);
         before = Some(step);
     }
     Ok(next)

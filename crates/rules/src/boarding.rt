@@ -7,7 +7,7 @@ ghost use Rattle.rules.specs.Faults.{BoardingAtFault};
 
 use crate::fault::RuleFault;
 use crate::rule::Rule;
-use model::LABELS;
+use model::{LABELS, Mode};
 
 const MOST_BOARDINGS: u32 = 15;
 
@@ -35,7 +35,7 @@ impl BoardingRule {
 fn is_boarding(label: u32) -> bool
     ensures { result ≡ boards label }
 {
-    label == 1 || label == 2 || label == 3
+    Mode::try_from(label).is_ok_and(Mode::is_boarding)
 }
 
 impl Rule for BoardingRule {

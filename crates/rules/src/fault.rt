@@ -14,12 +14,12 @@ pub enum RuleFault {
     BoardingLimit,
 }
 
-impl RuleFault {
-    /// The refusal by which the fault is reported.
-    pub fn refusal(self) -> Refusal
-        ensures { result ≡ refusal_of self }
-    {
-        match self {
+/// The refusal by which a fault is reported.
+impl From<RuleFault> for Refusal {
+    ghost from_gives = { λ fault refusal. refusal ≡ refusal_of fault };
+
+    fn from(fault: RuleFault) -> Refusal {
+        match fault {
             RuleFault::StateCount
             | RuleFault::StepCount
             | RuleFault::EndCount

@@ -13,5 +13,5 @@ pub use boarding::BoardingRule;
 pub use fault::RuleFault;
 pub use pair::{Pair, pair_state_examples};
 pub use rule::Rule;
-pub use table::TableRule;
+pub use table::{MAX_ENTRIES, MAX_STATES, TableRule};
 pub use words::accepts;

@@ -1,12 +1,11 @@
 //! Two rules as one.
-ghost use Rattle.std.specs.Prelude.{◌≡◌, ◌*◌, ◌<◌, ◌≤◌, true, false};
+ghost use Rattle.std.specs.Prelude.{◌≡◌, ◌*◌, ◌<◌, ◌≤◌, true, false, MatchOption};
 ghost use Rattle.automata.specs.Words.{AcceptsJust};
 ghost use Rattle.automata.specs.Pairs.{paired, AcceptedByBoth, PairStateExamples};
 ghost use Rattle.automata.proofs.PairLaws.{paired_lawful};
 
 use crate::rule::Rule;
-
-const MOST_STATES: u32 = 64;
+use model::MOST_STATES;
 
 /// Both rules at once: the product of the two automata, as long as it has at most 64 states.
 #[derive(Clone, Copy, Drop)]
@@ -25,6 +24,14 @@ impl<A: Rule, B: Rule> Pair<A, B> {
     {
         Pair { first, second }
     }
+
+    /// The states of the second rule, where the pair fits.
+    fn width(&self) -> Option<u32>
+        ensures { MatchOption result (64 < (A.Rule.automaton self.now.first).states * (B.Rule.automaton self.now.second).states) (λ width. ((A.Rule.automaton self.now.first).states * (B.Rule.automaton self.now.second).states ≤ 64) × (width ≡ (B.Rule.automaton self.now.second).states)) }
+    {
+        let width = self.second.states();
+        (self.first.states() * width <= MOST_STATES).then_some(width)
+    }
 }
 
 impl<A: Rule, B: Rule> Rule for Pair<A, B> {
@@ -32,31 +39,25 @@ impl<A: Rule, B: Rule> Rule for Pair<A, B> {
 
     ghost lawful = { λ r. paired_lawful _ _ (A.Rule.lawful r.first) (B.Rule.lawful r.second) };
 
+    /// A rule answers a number of states; one above the most says that the pair does not fit.
     fn states(&self) -> u32 {
-        let states = self.first.states() * self.second.states();
-        if states <= MOST_STATES {
-            states
-        } else {
-            MOST_STATES + 1
+        match self.width() {
+            Some(width) => self.first.states() * width,
+            None => MOST_STATES + 1,
         }
     }
 
     fn next(&self, state: u32, label: u32) -> Option<u32> {
-        let width = self.second.states();
-        if self.first.states() * width > MOST_STATES {
-            return None;
-        }
+        let width = self.width()?;
         let first = self.first.next(state / width, label)?;
         let second = self.second.next(state % width, label)?;
         Some(first * width + second)
     }
 
     fn ends(&self, state: u32) -> bool {
-        let width = self.second.states();
-        if self.first.states() * width > MOST_STATES {
-            return false;
-        }
-        self.first.ends(state / width) && self.second.ends(state % width)
+        self.width().is_some_and(|width| {
+            self.first.ends(state / width) && self.second.ends(state % width)
+        })
     }
 }
 

@@ -10,10 +10,10 @@ pub fn accepts<R: Rule>(rule: &R, word: &[u32]) -> bool
 {
     let mut state = 0;
     for label in word {
-        match rule.next(state, *label) {
-            Some(next) => state = next,
-            None => return false,
-        }
+        let Some(next) = rule.next(state, *label) else {
+            return false;
+        };
+        state = next;
     }
     rule.ends(state)
 }

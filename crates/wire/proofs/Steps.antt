@@ -1,12 +1,12 @@
 -- What a call of a reader says of the file, and the turns of a loop that reads.
-use Rattle.std.proofs.Common.{◌≡◌, ℕ, suc, ◌-◌, ◌^◌, ◌<◌, ◌≤◌, List, [], ◌∷◌, ◌++◌, Ok, Err, Result, sym, refl, ap, ◌∙◌, ap₂, append_assoc, append-nil, arith}
+use Rattle.std.proofs.Common.{◌≡◌, Bool, true, false, cond, Option, Some, None, subst, ℕ, suc, ◌-◌, ◌^◌, ◌<◌, ◌≤◌, List, [], ◌∷◌, ◌++◌, Ok, Err, Result, sym, refl, ap, ◌∙◌, ap₂, append_assoc, append-nil, arith}
 use Rattle.model.specs.declared.refusal.Refusal.{Refusal}
 use Rattle.wire.specs.declared.fault.Fault.{Fault}
 use Rattle.wire.specs.declared.reader.Reader.{Reader}
-use Rattle.wire.specs.Places.{Step, value_of, place_after}
-use Rattle.wire.specs.Readers.{file, Reads}
+use Rattle.wire.specs.Places.{Step, value_of, place_after, number_at, wrong}
+use Rattle.wire.specs.Readers.{file, Reads, Taken, Takes}
 use Rattle.wire.specs.Grammar.{Format, LawfulFormat, and_then, ranged, many, counted}
-use Rattle.wire.proofs.Laws.{ranged_lawful}
+use Rattle.wire.proofs.Laws.{number_lawful, ranged_lawful}
 
 -- to say what a call read
 pub reads_by_ok : {A : Type 0} (f : List ℕ → ℕ → Step A) (before after : Reader) (x : A) → f (file before) before.at ≡ Ok (x, after.at) → after.bytes ≡ before.bytes → Reads f before after (Ok x)
@@ -29,6 +29,38 @@ reads_ok h e = read_ok _ _ _ (sym e ∙ h.value) h.place
 
 pub reads_err : {A : Type 0} {f : List ℕ → ℕ → Step A} {before after : Reader} {r : Result A Fault} {x : Fault} → Reads f before after r → r ≡ Err x → f (file before) before.at ≡ Err x
 reads_err h e = read_err _ _ (sym e ∙ h.value)
+
+-- to say what a call read that takes a number by a test
+taken_value : {A : Type 0} (t : Bool) (a v : A) (q : ℕ) (e : Step A) → Some a ≡ cond t (Some v) None → cond t (Ok (v, q)) e ≡ Ok (a, q)
+taken_value true a v q e is = let i : a ≡ v = cc in ap (λ x. Ok (x, q)) (sym i)
+taken_value false a v q e is = let z : ◌≡◌ {A = ℕ} 0 1 = cc in absurd (omega arith)
+
+taken_none : {A : Type 0} (t : Bool) (v : A) (s e : Step A) → None ≡ cond t (Some v) None → cond t s e ≡ e
+taken_none true v s e is = let z : ◌≡◌ {A = ℕ} 0 1 = cc in absurd (omega arith)
+taken_none false v s e is = refl
+
+pub takes_reads : {A : Type 0} {Made : ℕ → Option A → Type 0} {k : Refusal} {before after : Reader} {r : Result A Fault} (test : ℕ → Bool) (value : ℕ → A) → Takes Made k before after r →
+    ((n : ℕ) (o : Option A) → n < 2 ^ 32 → Made n o → o ≡ cond (test n) (Some (value n)) None) →
+    Reads (λ bs p. and_then (number_at bs p) (λ n q. cond (test n) (Ok (value n, q)) (Err (wrong k p)))) before after r
+takes_reads {A} {Made} {k} {before} {after} {r} test value takes made = go (number_at (file before) before.at) refl r takes.answer takes.place
+  where
+    Whole : List ℕ → ℕ → Step A
+    Whole bs p = and_then (number_at bs p) (λ n q. cond (test n) (Ok (value n, q)) (Err (wrong k p)))
+
+    small : (n q : ℕ) → number_at (file before) before.at ≡ Ok (n, q) → n < 2 ^ 32
+    small n q e = (number_lawful.held n (file before) before.at q e).fine
+
+    go : (s : Step ℕ) → number_at (file before) before.at ≡ s → (r : Result A Fault) → Taken Made k before.at s r → after.at ≡ place_after s after.at → Reads Whole before after r
+    go (Ok x) e (Ok a) h p =
+        reads_by_ok Whole before after a
+        (ap (λ s. and_then s (λ n q. cond (test n) (Ok (value n, q)) (Err (wrong k before.at)))) e
+        ∙ taken_value (test x.0) a (value x.0) x.1 (Err (wrong k before.at)) (made x.0 (Some a) (small x.0 x.1 e) h) ∙ ap (λ q. Ok (a, q)) (sym p)) takes.bytes
+    go (Ok x) e (Err f) h p =
+        reads_by_err Whole before after f
+        (ap (λ s. and_then s (λ n q. cond (test n) (Ok (value n, q)) (Err (wrong k before.at)))) e
+        ∙ taken_none (test x.0) (value x.0) (Ok (value x.0, x.1)) (Err (wrong k before.at)) (made x.0 None (small x.0 x.1 e) h.0) ∙ ap (λ f. Err f) (sym h.1)) takes.bytes
+    go (Err f) e r h p =
+        subst (λ r. Reads Whole before after r) (sym h) (reads_by_err Whole before after f (ap (λ s. and_then s (λ n q. cond (test n) (Ok (value n, q)) (Err (wrong k before.at)))) e) takes.bytes)
 
 -- a loop that reads n of a kind: what it has, before what it has yet to read
 unfoldable pub prepend : {A : Type 0} → List A → Step (List A) → Step (List A)

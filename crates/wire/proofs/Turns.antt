@@ -1,5 +1,6 @@
 -- What a turn of `decoded` keeps.
-use Rattle.std.proofs.Common.{◌≡◌, ℕ, zero, suc, ◌+◌, ◌-◌, ◌*◌, ◌^◌, ◌<◌, ◌≤◌, Bool, true, false, cond, eqb, List, [], ◌∷◌, length, get_or, drop, Ok, Err, sym, refl, ap, ◌∙◌, ap₂, mul-le-mul_right, mul-le-mul, add-one, arith, drop_of_length-le, drop-cons}
+use Rattle.std.proofs.Common.{◌≡◌, ℕ, zero, suc, ◌+◌, ◌-◌, ◌*◌, ◌^◌, ◌<◌, ◌≤◌, Bool, true, false, cond, eqb, List, [], ◌∷◌, length, get_or, min, take, drop, Ok, Err, sym, refl, ap, ◌∙◌, ap₂, mul-le-mul_right, mul-le-mul, add-one, arith, drop_of_length-le, drop-cons, length-take}
+use Rattle.std.proofs.lemmas.List.{get_or-take}
 use Rattle.std.proofs.lemmas.Bool.{lt-ltb, le-ltb, ne_eqb, eqb-false}
 use Rattle.model.specs.declared.refusal.Refusal.{Refusal}
 use Rattle.model.specs.declared.refusal.Refusal.TheVariants.{FileEndsEarly, BadNumber}
@@ -63,6 +64,17 @@ onto_more (suc i) v s b (Ok x) p q = go (eqb x.0 0) refl
 -- the groups from the i-th on
 at_group : (bs : List ℕ) (i : ℕ) → i < 5 → i < length bs → groups (5 - i) (drop i bs) ≡ groups (suc (4 - i)) (get_or bs i 0 ∷ drop (suc i) bs)
 at_group bs i few h = ap₂ groups (omega arith) (drop-cons bs i 0 h)
+
+-- a byte of the front that is read
+pub record AtFront (bs : List ℕ) (k i : ℕ) : Type 0 where
+  pub few : i < 5
+  pub inside : i < length bs
+  pub same : get_or (take k bs) i 0 ≡ get_or bs i 0
+
+pub front_at : (bs : List ℕ) {k : ℕ} (i : ℕ) → k ≡ min (length bs) 5 → i < length (take k bs) → AtFront bs k i
+front_at bs {k} i is h =
+    let l = length-take k bs in
+    record { few = omega (arith, l); inside = omega (arith, l); same = get_or-take k bs i 0 (omega (arith, l)) }
 
 pub more : {bs : List ℕ} {i v s : ℕ} → Going bs i v s → i < 5 → i < length bs → 128 ≤ get_or bs i 0 → get_or bs i 0 < 256 → Going bs (i + 1) (v + (get_or bs i 0 - 128) * s) (s * 128)
 more {bs} {i} {v} {s} h few inside mark byte =

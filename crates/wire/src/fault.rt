@@ -5,7 +5,7 @@ ghost use Rattle.model.specs.Refusals.{layer_of};
 use model::{Layer, Refusal};
 
 /// Why a file is refused, and the place of the first byte of what is at fault.
-#[derive(Clone, Copy, Drop)]
+#[derive(Clone, Copy, Debug, Drop, PartialEq, Eq)]
 pub struct Fault {
     pub refusal: Refusal,
     pub at: usize,

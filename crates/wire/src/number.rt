@@ -1,7 +1,6 @@
 //! Numbers in a file: groups of seven bits, lowest first, the high bit set on all but the last group.
 //! At most five groups, in their shortest form, below 2^32.
-ghost use Rattle.std.specs.Prelude.{◌≡◌, ◌+◌, ◌≤◌, length};
-ghost use Rattle.std.proofs.Math.Seq.{paste};
+ghost use Rattle.std.specs.Prelude.{◌≡◌, length};
 ghost use Rattle.wire.specs.Numbers.{decode, encode};
 ghost use Rattle.wire.specs.Outputs.{Puts};
 
@@ -16,8 +15,9 @@ pub fn decoded(bytes: &[u8]) -> Result<(u32, usize), Refusal>
 {
     let mut value: u64 = 0;
     let mut scale: u64 = 1;
-    for i in 0..bytes.len().min(MAX_GROUPS) {
-        let group = bytes[i];
+    let front = &bytes[..bytes.len().min(MAX_GROUPS)];
+    for (i, group) in front.iter().enumerate() {
+        let group = *group;
         if group < 128 {
             value += group as u64 * scale;
             if (i > 0 && group == 0) || value > u32::MAX as u64 {
@@ -52,30 +52,32 @@ pub fn encoded_len(n: u32) -> usize
     }
 }
 
-// Writes a number into `out` at a place that has room for it, and answers the place after it.
-fn write(n: u32, out: &mut [u8], at: usize) -> usize
-    requires room { at + length (encode n) ≤ length out.old }
-    ensures place { result ≡ at + length (encode n) }
-    ensures output { out.new ≡ paste out.old at (encode n) (length (encode n)) }
+/// Writes a number into `groups`, a byte for each group.
+fn write(n: u32, groups: &mut [u8])
+    requires room { length groups.old ≡ length (encode n) }
+    ensures { groups.new ≡ encode n }
 {
     let mut rest = n;
-    let mut i = 0;
-    while rest >= 128 {
-        out[at + i] = (rest % 128) as u8 + 128;
+    for group in groups.iter_mut() {
+        *group = if rest < 128 {
+            rest as u8
+        } else {
+            (rest % 128) as u8 + 128
+        };
         rest /= 128;
-        i += 1;
     }
-    out[at + i] = rest as u8;
-    at + i + 1
 }
 
 /// Writes a number at a place of `out`, and answers the place after it. Where there is no room for all of it nothing is written,
-/// and the answer is the place itself.
-pub fn put(n: u32, out: &mut [u8], at: usize) -> usize
+/// and there is no answer.
+pub fn put(n: u32, out: &mut [u8], at: usize) -> Option<usize>
     ensures { Puts (encode n) at out.old out.new result }
 {
-    if at > out.len() || out.len() - at < encoded_len(n) {
-        return at;
+    let len = encoded_len(n);
+    if at > out.len() || out.len() - at < len {
+        return None;
     }
-    write(n, out, at)
+    let to = at + len;
+    write(n, &mut out[at..to]);
+    Some(to)
 }

@@ -1,8 +1,12 @@
 //! Where a reader stands in its file.
-ghost use Rattle.std.specs.Prelude.{◌≡◌, min, length, ◌==◌};
+ghost use Rattle.std.specs.Prelude.{◌≡◌, ◌<◌, ◌≤◌, min, length, ◌==◌, MatchResult};
+ghost use Rattle.model.specs.declared.refusal.Refusal.TheVariants.{FileEndsEarly};
+ghost use Rattle.wire.specs.Places.{wrong};
 ghost use Rattle.wire.specs.Readers.{file};
 
+use crate::fault::Fault;
 use crate::reader::Reader;
+use model::Refusal;
 
 impl<'a> Reader<'a> {
     /// A reader at the front of a file.
@@ -21,6 +25,20 @@ impl<'a> Reader<'a> {
         Reader {
             bytes,
             at: at.min(bytes.len()),
+        }
+    }
+
+    /// A reader at a place of a file; a place past the end is refused.
+    pub fn starting_within(bytes: &'a [u8], at: usize) -> Result<Self, Fault>
+        ensures { MatchResult result (λ reader. (at ≤ length bytes.now) × (file reader ≡ bytes.now) × (reader.at ≡ at)) (λ fault. (length bytes.now < at) × (fault ≡ wrong FileEndsEarly at)) }
+    {
+        if at <= bytes.len() {
+            Ok(Reader { bytes, at })
+        } else {
+            Err(Fault {
+                refusal: Refusal::FileEndsEarly,
+                at,
+            })
         }
     }
 

@@ -1,18 +1,15 @@
-use Rattle.std.proofs.Common.{arith}
-use Rattle.wire.proofs.Writing.{begun, turned, ended}
+use Rattle.std.proofs.Common.{◌+◌, ◌/◌, subst, sym, ◌∙◌, set, arith}
+use Rattle.wire.proofs.Writing.{Writing, begun, turned, ended}
 use Rattle.wire.proofs.number.write.Goals as goal
+use Rattle.wire.proofs.number.write.Goals.{then-rest-lt128, else-rest-lt128}
 
-pub loop-rest-init : goal.loop-rest-init
-loop-rest-init c = begun c.args.n c.args.at c.args.out.now (omega arith)
+pub loop-group-init : goal.loop-group-init
+loop-group-init c = begun c.args.n c.args.groups.now (omega arith)
 
-pub bounds-out-at : goal.bounds-out-at
-bounds-out-at c = (turned c.loop-rest.invariant c.requires.room (omega arith)).0
-
-pub loop-rest-preserved : goal.loop-rest-preserved
-loop-rest-preserved c = (turned c.loop-rest.invariant c.requires.room (omega arith)).1
-
-pub bounds-out-at-2 : goal.bounds-out-at-2
-bounds-out-at-2 c = (ended c.loop-rest.invariant c.requires.room (omega arith)).0
-
-pub returns : goal.returns
-returns c = let e = ended c.loop-rest.invariant c.requires.room (omega arith) in record { place = omega (arith, e.1); output = e.2 }
+pub loop-group-preserved : goal.loop-group-preserved
+loop-group-preserved c =
+    let long = c.loop-group.auto.groups ∙ c.requires.room in
+    elim c.if-rest-lt128.branch [
+      | then-rest-lt128 w ↦ subst (λ b. Writing c.args.n (set c.loop-group.groups c.loop-group.group-index b) (c.loop-group.group-index + 1) (c.loop-group.rest / 128)) (sym w.group-is) (ended c.loop-group.invariant (omega arith) long (omega arith))
+      | else-rest-lt128 w ↦ subst (λ b. Writing c.args.n (set c.loop-group.groups c.loop-group.group-index b) (c.loop-group.group-index + 1) (c.loop-group.rest / 128)) (sym w.group-is) (turned c.loop-group.invariant (omega arith) long (omega arith))
+    ]

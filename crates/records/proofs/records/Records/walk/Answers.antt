@@ -1,15 +1,17 @@
-use Rattle.std.proofs.Common.{refl, ◌∙◌, arith}
+use Rattle.std.proofs.Common.{refl, ◌∙◌}
+use Rattle.std.proofs.lemmas.Result.{err_from_is_err_and}
 use Rattle.formats.specs.NetworkFile.{walk}
 use Rattle.records.specs.Stream.{a_walk, timetable_run}
 use Rattle.records.proofs.Handing.{at_section, streamed_ok, streamed_err}
 use Rattle.records.proofs.records.Records.walk.Goals as goal
 
-pub returns-in-Ok : goal.returns-in-Ok
-returns-in-Ok c =
+pub returns-clause-says : goal.returns-clause-says
+returns-clause-says c =
     let r = c.args.self.now in
-    record { says = at_section r c.requires.among ∙ streamed_ok {S = Unit {0}} (λ _. walk) (λ _ _. tt) a_walk (timetable_run r.stops r.walks) tt c.args.left c.in-Ok.ensures refl c.requires.some; falls = rw c.requires.among (omega arith); over = tt }
+    at_section r c.requires.among ∙ streamed_ok {S = Unit {0}} (λ _. walk) (λ _ _. tt) a_walk (timetable_run r.stops r.walks) tt c.args.left c.in_ok-seconds.ensures refl c.requires.some
 
-pub returns-in-Err : goal.returns-in-Err
-returns-in-Err c =
+pub returns-in_err-seconds-clause-says : goal.returns-in_err-seconds-clause-says
+returns-in_err-seconds-clause-says c =
     let r = c.args.self.now in
-    record { says = at_section r c.requires.among ∙ streamed_err {S = Unit {0}} (λ _. walk) (λ _ _. tt) a_walk (timetable_run r.stops r.walks) tt c.args.left c.in-Err.ensures refl c.requires.some; falls = rw c.requires.among (omega arith); over = refl }
+    let p = err_from_is_err_and c.from_residual.result c.from_residual.ensures.1 in
+    rw (p.1, p.2) (at_section r c.requires.among ∙ streamed_err {S = Unit {0}} (λ _. walk) (λ _ _. tt) a_walk (timetable_run r.stops r.walks) tt c.args.left c.in_err-seconds.ensures refl c.requires.some)

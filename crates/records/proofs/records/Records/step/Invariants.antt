@@ -1,6 +1,6 @@
 use Rattle.std.proofs.Common.{◌≡◌, ◌≤◌}
 use Rattle.records.specs.Records.{rest, size}
-use Rattle.records.proofs.records.Records.next.Given as goal
+use Rattle.records.proofs.records.Records.step.Given as goal
 
 abbrev pub invariant-loop-self : goal.invariant-loop-self
 invariant-loop-self l = (rest l.initial.self ≡ rest l.self) × (size l.self.section ≤ size l.initial.self.section)
