@@ -3,11 +3,10 @@ use Rattle.std.specs.Prelude.{◌≡◌, take, replicate, vec_items, Option}
 use Rattle.files.specs.declared.rows.Counts.{Counts}
 use Rattle.files.specs.Loading.{Tables}
 use Rattle.book.specs.declared.bank.Bank.{Bank}
-use Rattle.books.specs.declared.fault.BookFault.{BookFault}
+use Rattle.meanings.specs.declared.fault.BookFault.{BookFault}
 use Rattle.books.specs.declared.walks.Walks.{Walks}
-use Rattle.books.specs.declared.timetables.Timetables.{Timetables}
-use Rattle.books.specs.declared.roads.Roads.{Roads}
-use Rattle.books.specs.Faults.{or_else, walks_fault, timetables_fault, roads_fault}
+use Rattle.books.specs.Kinds.{Timetables, Roads}
+use Rattle.meanings.specs.Faults.{or_else, walks_fault, timetables_fault, roads_fault}
 use Rattle.contents.specs.declared.tables.FileContents.{FileContents}
 
 abbrev pub lists : FileContents → Tables
@@ -52,7 +51,7 @@ book_fault t = or_else (walks_fault t.walks) (or_else (timetables_fault t.connec
 -- the book over the tables
 pub record Laid (t : Tables) (book : Bank (Bank Walks Timetables) Roads) : Type 0 where
   pub walks : book.first.first.times.now ≡ t.walks
-  pub connections : book.first.second.connections.now ≡ t.connections
+  pub connections : book.first.second.rows.now ≡ t.connections
   pub timetables : book.first.second.spans.now ≡ t.timetables
-  pub points : book.second.points.now ≡ t.points
+  pub points : book.second.rows.now ≡ t.points
   pub roads : book.second.spans.now ≡ t.roads

@@ -12,36 +12,22 @@ fn old_rule() -> Result<TableRule, RuleFault> {
     TableRule::new(1, &[None, None, None, None, None, Some(0)], &[true])
 }
 
-fn same(a: Layer, b: Layer) -> bool {
-    match a {
-        Layer::Number => matches!(b, Layer::Number),
-        Layer::Record => matches!(b, Layer::Record),
-        Layer::Network => matches!(b, Layer::Network),
-    }
-}
-
 // Whether the rule file from a place on is refused by this number, at this place and in this layer, and the rule stays.
 fn refused(file: &[u8], at: usize, number: u8, place: usize, layer: Layer) -> bool {
-    match old_rule() {
-        Ok(mut rule) => match load_rule(file, at, &mut rule) {
-            Ok(_) => false,
-            Err(fault) => {
-                fault.refusal.number() == number
-                    && fault.at == place
-                    && same(fault.layer(), layer)
-                    && rule.states() == 1
-                    && rule.next(0, 5) == Some(0)
-            }
-        },
-        Err(_) => false,
-    }
+    let Ok(mut rule) = old_rule() else {
+        return false;
+    };
+    load_rule(file, at, &mut rule).is_err_and(|fault| {
+        fault.refusal.number() == number && fault.at == place && fault.layer() == layer
+    }) && rule.states() == 1
+        && rule.next(0, 5) == Some(0)
 }
 
 // Whether the sound file with one byte changed is refused so, in the layer of records.
 fn changed(at: usize, byte: u8, number: u8, place: usize) -> bool {
     let mut file = FILE;
-    if at < 13 {
-        file[at] = byte;
+    if let Some(changed) = file.get_mut(at) {
+        *changed = byte;
     }
     refused(&file, 0, number, place, Layer::Record)
 }

@@ -1,9 +1,8 @@
 //! The tables that a run lends.
 ghost use Rattle.std.specs.Prelude.{◌≡◌, ◌/◌};
 
-use contents::FileContents;
-use files::{Counts, Loaded, load};
-use wire::Fault;
+use files::Counts;
+use model::{MOST_ARCS, MOST_SERVICES, MOST_STOPS};
 use workspace::AskSizes;
 
 /// The rows that any file of so many bytes may fill: a connection or a point takes two bytes at least.
@@ -11,13 +10,13 @@ pub(crate) fn file_rows(bytes: usize) -> Counts
     ensures { result ≡ record { stops = 1024; walks = 4096; timetables = 4096; connections = bytes / 2; roads = 4096; points = bytes / 2; arcs = 8192 } }
 {
     Counts {
-        stops: 1_024,
-        walks: 4_096,
-        timetables: 4_096,
+        stops: MOST_STOPS as usize,
+        walks: MOST_SERVICES as usize,
+        timetables: MOST_SERVICES as usize,
         connections: bytes / 2,
-        roads: 4_096,
+        roads: MOST_SERVICES as usize,
         points: bytes / 2,
-        arcs: 8_192,
+        arcs: MOST_ARCS as usize,
     }
 }
 
@@ -30,18 +29,4 @@ pub(crate) fn ask_sizes(states: u32, counts: Counts) -> AskSizes {
         slots: states.saturating_mul(counts.arcs).saturating_add(1),
         legs: places,
     }
-}
-
-/// Fills the tables with the contents of a file.
-pub(crate) fn load_into(contents: &mut FileContents, file: &[u8]) -> Result<Loaded, Fault> {
-    load(
-        file,
-        contents.names.as_mut_slice(),
-        contents.walks.as_mut_slice(),
-        contents.timetables.as_mut_slice(),
-        contents.connections.as_mut_slice(),
-        contents.roads.as_mut_slice(),
-        contents.points.as_mut_slice(),
-        contents.arcs.as_mut_slice(),
-    )
 }

@@ -4,3 +4,4 @@ pub mod Lists
 pub mod Filling
 pub mod Passes
 pub mod Making
+pub mod References

@@ -10,10 +10,10 @@ use Rattle.meanings.specs.Spans.{rows, most_services}
 use Rattle.meanings.specs.Walks.{longest_walk}
 use Rattle.meanings.specs.Timetables.{most_connections}
 use Rattle.meanings.specs.Roads.{most_points}
-use Rattle.books.specs.declared.fault.BookFault.TheVariants.{TooManyServices, WalkTooLong, ListLength, ListOutside}
-use Rattle.books.specs.declared.fault.Field.{Field}
-use Rattle.books.specs.declared.fault.Field.TheVariants.{Departure, Arrival}
-use Rattle.books.specs.Faults.{unless, or_else, first_fault, count_fault, walk_fault, departed, connection_fault, above, arrived, point_fault, in_row, rows_fault, list_fault, verdict}
+use Rattle.meanings.specs.declared.fault.BookFault.TheVariants.{TooManyServices, WalkTooLong, ListLength, ListOutside}
+use Rattle.meanings.specs.declared.fault.Field.{Field}
+use Rattle.meanings.specs.declared.fault.Field.TheVariants.{Departure, Arrival}
+use Rattle.meanings.specs.Faults.{unless, or_else, first_fault, count_fault, walk_fault, departed, connection_fault, above, arrived, point_fault, in_row, rows_fault, list_fault, verdict}
 use Rattle.network.specs.declared.fault.NetworkFault.{NetworkFault}
 use Rattle.network.specs.Sound.{Sound, InRange, Tested}
 use Rattle.network.proofs.Faultless.{sound_not_at_fault}

@@ -111,12 +111,12 @@ same_counts n m s w t c r p a =
     ∙ ap (λ x. record { stops = m.stops; walks = m.walks; timetables = m.timetables; connections = m.connections; roads = m.roads; points = x; arcs = n.arcs }) p
     ∙ ap (λ x. record { stops = m.stops; walks = m.walks; timetables = m.timetables; connections = m.connections; roads = m.roads; points = m.points; arcs = x }) a
 
-start_empty : (e : ℕ) (t : Tables) → Empty (filling (unstored e) t.names t.walks t.timetables t.connections t.roads t.points t.arcs)
+start_empty : (e : ℕ) (t : Tables) → Empty (filling (unstored e) t)
 start_empty e t = record { stops = refl; walk_count = refl; timetables = refl; roads = refl; arc_count = refl }
 
 counts_whole : (c : NetworkContents) → FineNetwork c → counted_all none (records_of c) ≡ counts_of c
 counts_whole c f =
-    let start : Filling = filling (unstored 0) [] [] [] [] [] [] [] in
+    let start : Filling = filling (unstored 0) (record { names = []; walks = []; timetables = []; connections = []; roads = []; points = []; arcs = [] }) in
     let t : Tables = record { names = []; walks = []; timetables = []; connections = []; roads = []; points = []; arcs = [] } in
     let w = whole c start (start_empty 0 t) (some_timetables c f) (some_roads c f) in
     sym (counts_stored_all (records_of c) start)
@@ -131,14 +131,6 @@ pub record Tallying (all left : Told) (size : ℕ) (n : Counts) : Type 0 where
   pub sized : size ≤ 2520072
   pub few : AtMost (2520072 - size) n
 
-pub tallying_start : (all left : Told) (n : Counts) (size : ℕ) → left ≡ all → n ≡ none → size ≤ 2520072 → Tallying all left size n
-tallying_start all left n size e z h = record {
-  same = ap₂ (λ n t. counted_all n t.0) (sym z) (sym e);
-  end = ap (λ t. t.1) (sym e);
-  sized = h;
-  few = subst (AtMost (2520072 - size)) (sym z) (none_yet (2520072 - size));
-}
-
 pub tallying_turn : {all left : Told} {size : ℕ} {n : Counts} → Tallying all left size n → (r : Rec) (left' : Told) (size' : ℕ) (m : Counts) → left ≡ before r left' → size' < size → m ≡ counted n r → Tallying all left' size' m
 unfolding counted_all
 tallying_turn {all} {left} {size} {n} h r left' size' m e less is = record {
@@ -147,9 +139,6 @@ tallying_turn {all} {left} {size} {n} h r left' size' m e less is = record {
   sized = omega (arith, h.sized);
   few = subst (AtMost (2520072 - size')) (sym is) (one_more n r (2520072 - size) (2520072 - size') h.few (omega (arith, h.sized)));
 }
-
-pub tallied_fault : {all left : Told} {size : ℕ} {n : Counts} (s : Step NetworkContents) {f : Fault} → Tallying all left size n → collected all ≡ and_then s (λ c q. Ok (records_of c, q)) → left.1 ≡ Err f → ◌≡◌ {A = Result Loaded Fault} (Err f) (measured s)
-tallied_fault {all} s {f} h e is = sym (ap measured (read_fault all s f e (h.end ∙ is)))
 
 pub tallied_end : {all left : Told} {size : ℕ} {n : Counts} (bs : List ℕ) {p : ℕ} → Tallying all left size n → collected all ≡ and_then (network.read bs 0) (λ c q. Ok (records_of c, q)) → left ≡ ([], Ok p) →
     Ok (record { counts = n; end = p }) ≡ measured (network.read bs 0)
@@ -205,9 +194,9 @@ first_stop_lem n = omega (arith, few_bytes 1, few_bytes n)
 
 pub going_start : {bs : List ℕ} {n : ℕ} → Accepted bs n → (t : Tables) (end size : ℕ) (left : List Rec) → end ≤ 10 → left ≡ (told bs).0 → size ≡ 2520072 →
     collected (told bs) ≡ and_then (network.read bs 0) (λ c q. Ok (records_of c, q)) →
-    Going (filling (unstored end) t.names t.walks t.timetables t.connections t.roads t.points t.arcs) (told bs).0 left size (filling (unstored end) t.names t.walks t.timetables t.connections t.roads t.points t.arcs)
+    Going (filling (unstored end) t) (told bs).0 left size (filling (unstored end) t)
 going_start {bs} a t end size left low e z col = record {
-  same = ap (stored_all (filling (unstored end) t.names t.walks t.timetables t.connections t.roads t.points t.arcs)) (sym e);
+  same = ap (stored_all (filling (unstored end) t)) (sym e);
   short = subst AllShort (sym (e ∙ told_all (told bs) (network.read bs 0) a.contents a.end col a.read)) (short_records a.contents (fine bs a.contents a.end a.read));
   sized = omega arith;
   bounded = record { counts = none_yet (2520072 - size); timetable = omega arith; road = omega arith; end = omega arith };
@@ -247,7 +236,7 @@ going_bounded {f = f} h = let b = h.bounded in record {
 
 -- the tables at the end
 
-same_tables : (n m : Tables) → n.names ≡ m.names → n.walks ≡ m.walks → n.timetables ≡ m.timetables → n.connections ≡ m.connections → n.roads ≡ m.roads → n.points ≡ m.points → n.arcs ≡ m.arcs → n ≡ m
+pub same_tables : (n m : Tables) → n.names ≡ m.names → n.walks ≡ m.walks → n.timetables ≡ m.timetables → n.connections ≡ m.connections → n.roads ≡ m.roads → n.points ≡ m.points → n.arcs ≡ m.arcs → n ≡ m
 same_tables n m s w t c r p a =
     ap (λ x. record { names = x; walks = n.walks; timetables = n.timetables; connections = n.connections; roads = n.roads; points = n.points; arcs = n.arcs }) s
     ∙ ap (λ x. record { names = m.names; walks = x; timetables = n.timetables; connections = n.connections; roads = n.roads; points = n.points; arcs = n.arcs }) w
@@ -292,11 +281,11 @@ tables_in : Filling → Tables
 tables_in f = record { names = f.names; walks = f.walks; timetables = f.timetables.spans; connections = f.timetables.table; roads = f.roads.spans; points = f.roads.table; arcs = f.arcs }
 
 all_filled : (c : NetworkContents) → FineNetwork c → (t : Tables) → room (counts_of c) t ≡ true →
-    tables_in (stored_all (filling (unstored (first_stop (length c.names))) t.names t.walks t.timetables t.connections t.roads t.points t.arcs) (records_of c)) ≡ filled c t
+    tables_in (stored_all (filling (unstored (first_stop (length c.names))) t) (records_of c)) ≡ filled c t
 unfolding tables_in
 all_filled c f t e =
     let p = first_stop (length c.names) in
-    let start : Filling = filling (unstored p) t.names t.walks t.timetables t.connections t.roads t.points t.arcs in
+    let start : Filling = filling (unstored p) t in
     let w = whole c start (start_empty p t) (some_timetables c f) (some_roads c f) in
     let r = has_room (counts_of c) t e in
     same_tables (tables_in (stored_all start (records_of c))) (filled c t)
@@ -309,7 +298,7 @@ all_filled c f t e =
     (w.arcs ∙ front c.arcs t.arcs r.arcs)
 
 pub gone : {bs : List ℕ} {n : ℕ} (t : Tables) (end : ℕ) {left : List Rec} {size : ℕ} {f : Filling} →
-    Going (filling (unstored end) t.names t.walks t.timetables t.connections t.roads t.points t.arcs) (told bs).0 left size f →
+    Going (filling (unstored end) t) (told bs).0 left size f →
     left ≡ [] → end ≡ first_stop n → collected (told bs) ≡ and_then (network.read bs 0) (λ c q. Ok (records_of c, q)) →
     (a : Accepted bs n) → room (counts_of a.contents) t ≡ true →
     record { names = f.names; walks = f.walks; timetables = f.timetables.spans; connections = f.timetables.table; roads = f.roads.spans; points = f.roads.table; arcs = f.arcs } ≡ filled a.contents t
@@ -317,7 +306,7 @@ unfolding stored_all tables_in
 gone {bs} {n} t end {left} {size} {f} h none e col a r =
     let c = a.contents in
     let all = told_all (told bs) (network.read bs 0) c a.end col a.read in
-    let start : ℕ → Filling = λ p. filling (unstored p) t.names t.walks t.timetables t.connections t.roads t.points t.arcs in
+    let start : ℕ → Filling = λ p. filling (unstored p) t in
     let last : stored_all (start end) (records_of c) ≡ f = ap (stored_all (start end)) (sym all) ∙ h.same ∙ ap (stored_all f) none in
     let place : end ≡ first_stop (length c.names) = e ∙ ap first_stop a.count in
     ap tables_in (sym last) ∙ ap (λ p. tables_in (stored_all (start p) (records_of c))) place ∙ all_filled c (fine bs c a.end a.read) t r

@@ -1,7 +1,7 @@
 -- What is made of a network file that is accepted.
 use Rattle.std.specs.Prelude.{◌≡◌, ℕ, List, map, length, Ok, Result}
 use Rattle.meanings.specs.Spans.{rows}
-use Rattle.books.specs.Faults.{walks_fault, timetables_fault, roads_fault, verdict}
+use Rattle.meanings.specs.Faults.{walks_fault, timetables_fault, roads_fault, verdict}
 use Rattle.network.specs.declared.fault.NetworkFault.{NetworkFault}
 use Rattle.network.specs.Sound.{Tested}
 use Rattle.formats.specs.Contents.{NetworkContents}

@@ -1,9 +1,5 @@
 -- What the code holds while it fills tables.
 use Rattle.std.specs.Prelude.{◌≡◌, ℕ, true, List}
-use Rattle.model.specs.declared.network.Arc.{Arc}
-use Rattle.model.specs.declared.tables.Connection.{Connection}
-use Rattle.model.specs.declared.tables.Point.{Point}
-use Rattle.model.specs.declared.tables.Span.{Span}
 use Rattle.files.specs.declared.rows.Progress.{Progress}
 use Rattle.files.specs.Counting.{none}
 use Rattle.files.specs.Filling.{Filling}
@@ -12,17 +8,17 @@ use Rattle.files.specs.Loading.{Tables, Accepted, filled, room, counts_of}
 abbrev pub unstored : ℕ → Progress
 unstored end = record { counts = none; timetable = record { row = 0; span = record { start = 0; len = 0 } }; road = record { row = 0; span = record { start = 0; len = 0 } }; end = end }
 
-abbrev pub filling : Progress → List Span → List ℕ → List Span → List Connection → List Span → List Point → List Arc → Filling
-filling at names walks timetables connections roads points arcs = record {
+abbrev pub filling : Progress → Tables → Filling
+filling at t = record {
   stops = at.counts.stops;
   end = at.end;
-  names = names;
+  names = t.names;
   walk_count = at.counts.walks;
-  walks = walks;
-  timetables = record { count = at.counts.timetables; spans = timetables; rows = at.counts.connections; table = connections; current = at.timetable };
-  roads = record { count = at.counts.roads; spans = roads; rows = at.counts.points; table = points; current = at.road };
+  walks = t.walks;
+  timetables = record { count = at.counts.timetables; spans = t.timetables; rows = at.counts.connections; table = t.connections; current = at.timetable };
+  roads = record { count = at.counts.roads; spans = t.roads; rows = at.counts.points; table = t.points; current = at.road };
   arc_count = at.counts.arcs;
-  arcs = arcs;
+  arcs = t.arcs;
 }
 
 -- tables that have room for what the file holds are filled

@@ -3,6 +3,8 @@
 
 mod loading;
 mod rows;
+mod tables;
 
 pub use loading::{Loaded, load};
 pub use rows::Counts;
+pub use tables::FileTables;

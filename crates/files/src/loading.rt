@@ -6,10 +6,13 @@ ghost use Rattle.records.specs.Records.{meant};
 ghost use Rattle.files.specs.Filling.{Short, Bounded, stored};
 ghost use Rattle.files.specs.Making.{RowsHoldNames, FilesMakeBooksAndNetworks};
 ghost use Rattle.files.specs.Progress.{filling, Fills};
+ghost use Rattle.files.specs.Lent.{lists, SameReferences};
 ghost use Rattle.files.specs.Loading.{Accepted, loads, measured};
 
 use crate::rows::{Counts, Progress};
-use model::{Arc, Connection, Point, Refusal, Span};
+use crate::tables::FileTables;
+use formats::NETWORK_FORM;
+use model::{Refusal, Span};
 use records::{Record, Records};
 use wire::{Fault, encoded_len};
 
@@ -20,61 +23,33 @@ pub struct Loaded {
     pub end: usize,
 }
 
-/// Loads a network file into tables: the stops' names as their places in the file, the walks, the timetables as parts of the
-/// connections, the roads as parts of the points, and the arcs. Each table is filled from the front, and keeps what lies behind.
-/// A file that is refused, or that has more rows than a table, leaves every table as it is.
-pub fn load(
-    file: &[u8],
-    names: &mut [Span],
-    walks: &mut [u32],
-    timetables: &mut [Span],
-    connections: &mut [Connection],
-    roads: &mut [Span],
-    points: &mut [Point],
-    arcs: &mut [Arc],
-) -> Result<Loaded, Fault>
-    ensures loads { (result, record { names = names.new; walks = walks.new; timetables = timetables.new; connections = connections.new; roads = roads.new; points = points.new; arcs = arcs.new }) ≡ loads (network.read file.now 0) (record { names = names.old; walks = walks.old; timetables = timetables.old; connections = connections.old; roads = roads.old; points = points.old; arcs = arcs.old }) }
+/// Loads a network file into tables. Each table is filled from the front, and keeps what lies behind. A file that is refused, or
+/// that has more rows than a table, leaves every table as it is.
+pub fn load(file: &[u8], tables: &mut FileTables<'_>) -> Result<Loaded, Fault>
+    ensures loads { (result, lists tables.new) ≡ loads (network.read file.now 0) (lists tables.old) }
+    ensures same { SameReferences tables.old tables.new }
     ensures back { WritesBack network }
     ensures named { RowsHoldNames }
     ensures made { FilesMakeBooksAndNetworks }
 {
     let loaded = tally(file)?;
-    let counts = loaded.counts;
-    let fits = counts.fit(
-        names.len(),
-        walks.len(),
-        timetables.len(),
-        connections.len(),
-        roads.len(),
-        points.len(),
-        arcs.len(),
-    );
-    if !fits {
+    if !tables.have_room(loaded.counts) {
         return Err(Fault {
             refusal: Refusal::FileTablesShort,
             at: loaded.end,
         });
     }
-    fill(
-        file,
-        counts.stops,
-        names,
-        walks,
-        timetables,
-        connections,
-        roads,
-        points,
-        arcs,
-    );
+    fill(file, loaded.counts.stops, tables);
     Ok(loaded)
 }
 
-// The counts of a file's records, or the first fault of the file.
+/// The counts of a file's records, or the first fault of the file.
 fn tally(file: &[u8]) -> Result<Loaded, Fault>
     ensures { result ≡ measured (network.read file.now 0) }
 {
     let mut records = Records::new(file);
-    let mut counts = Counts::none();
+    let mut counts = Counts::default();
+    // A `for` over `&mut records` leaves no proof of the place after the last record.
     while let Some(item) = records.next() {
         counts = counts.with(item?);
     }
@@ -84,59 +59,27 @@ fn tally(file: &[u8]) -> Result<Loaded, Fault>
     })
 }
 
-// Puts the records of a file that is accepted into tables that have room for them.
-fn fill(
-    file: &[u8],
-    stops: usize,
-    names: &mut [Span],
-    walks: &mut [u32],
-    timetables: &mut [Span],
-    connections: &mut [Connection],
-    roads: &mut [Span],
-    points: &mut [Point],
-    arcs: &mut [Arc],
-)
+/// Puts the records of a file that is accepted into tables that have room for them.
+fn fill(file: &[u8], stops: usize, tables: &mut FileTables<'_>)
     requires { Accepted file.now stops }
-    ensures { Fills file.now stops (record { names = names.old; walks = walks.old; timetables = timetables.old; connections = connections.old; roads = roads.old; points = points.old; arcs = arcs.old }) (record { names = names.new; walks = walks.new; timetables = timetables.new; connections = connections.new; roads = roads.new; points = points.new; arcs = arcs.new }) }
+    ensures fills { Fills file.now stops (lists tables.old) (lists tables.new) }
+    ensures same { SameReferences tables.old tables.new }
 {
-    let mut records = Records::new(file);
-    let mut at = Progress::start(encoded_len(1) + encoded_len(stops as u32));
-    while let Some(found) = records.next() {
-        match found {
-            Ok(item) => {
-                at = store(
-                    item,
-                    at,
-                    names,
-                    walks,
-                    timetables,
-                    connections,
-                    roads,
-                    points,
-                    arcs,
-                );
-            }
-            Err(_) => return,
-        }
+    let mut at = Progress::start(encoded_len(NETWORK_FORM) + encoded_len(stops as u32));
+    for found in Records::new(file) {
+        let Ok(item) = found else { return };
+        at = store(item, at, tables);
     }
 }
 
-// Puts one record into its table.
-fn store(
-    item: Record,
-    at: Progress,
-    names: &mut [Span],
-    walks: &mut [u32],
-    timetables: &mut [Span],
-    connections: &mut [Connection],
-    roads: &mut [Span],
-    points: &mut [Point],
-    arcs: &mut [Arc],
-) -> Progress
-    requires bounded { Bounded 4294967295 4294967295 (filling at names.old walks.old timetables.old connections.old roads.old points.old arcs.old) }
+/// Puts one record into its table.
+fn store(item: Record, at: Progress, tables: &mut FileTables<'_>) -> Progress
+    requires bounded { Bounded 4294967295 4294967295 (filling at (lists tables.old)) }
     requires short { Short (meant item) }
-    ensures { filling result names.new walks.new timetables.new connections.new roads.new points.new arcs.new ≡ stored (filling at names.old walks.old timetables.old connections.old roads.old points.old arcs.old) (meant item.entry) }
+    ensures stored { filling result (lists tables.new) ≡ stored (filling at (lists tables.old)) (meant item.entry) }
+    ensures same { SameReferences tables.old tables.new }
 {
+    // The arms of timetables and roads differ in all four fields that they name: a function of both would have seven parameters.
     let counts = at.counts;
     let mut next = at;
     next.counts = counts.with(item);
@@ -144,38 +87,39 @@ fn store(
         Record::Stop(name) => {
             let len = name.len();
             let start = at.end + encoded_len(len as u32);
-            write(names, counts.stops, Span { start, len });
+            write(tables.names, counts.stops, Span { start, len });
             next.end = start + len;
         }
-        Record::Walk(seconds) => write(walks, counts.walks, seconds),
+        Record::Walk(seconds) => write(tables.walks, counts.walks, seconds),
         Record::Connection {
             service,
             connection,
         } => {
-            let new = service as usize == counts.walks + counts.timetables;
+            let new = counts.begins_timetable(service);
             let list = at
                 .timetable
                 .extended(new, counts.timetables, counts.connections);
-            write(timetables, list.row, list.span);
-            write(connections, counts.connections, connection);
+            write(tables.timetables, list.row, list.span);
+            write(tables.connections, counts.connections, connection);
             next.timetable = list;
         }
         Record::Point { service, point } => {
-            let new = service as usize == counts.walks + counts.timetables + counts.roads;
+            let new = counts.begins_road(service);
             let list = at.road.extended(new, counts.roads, counts.points);
-            write(roads, list.row, list.span);
-            write(points, counts.points, point);
+            write(tables.roads, list.row, list.span);
+            write(tables.points, counts.points, point);
             next.road = list;
         }
-        Record::Arc(arc) => write(arcs, counts.arcs, arc),
+        Record::Arc(arc) => write(tables.arcs, counts.arcs, arc),
     }
     next
 }
 
-// Puts a row into a table at a place that it has; a place that it does not have is passed over.
+/// Puts a row into a table at a place that it has; a place that it does not have is passed over.
 fn write<T: Copy + Drop>(table: &mut [T], at: usize, row: T)
     ensures { table.new ≡ slice_set table.old at row }
 {
+    // After a write through `get_mut` a proof knows no row of the table.
     if at < table.len() {
         table[at] = row;
     }

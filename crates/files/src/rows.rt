@@ -1,7 +1,7 @@
 //! How many rows of each table a network file fills.
-ghost use Rattle.std.specs.Prelude.{◌≡◌, ◌≤◌, ◌&&◌, if◌then◌else◌, nat_le};
+ghost use Rattle.std.specs.Prelude.{◌≡◌, ◌+◌, ◌≤◌, if◌then◌else◌, ◌==◌};
 ghost use Rattle.records.specs.Records.{meant};
-ghost use Rattle.files.specs.Counting.{Few, none, counted};
+ghost use Rattle.files.specs.Counting.{Few, counted};
 ghost use Rattle.files.specs.Filling.{grown};
 ghost use Rattle.files.specs.Progress.{unstored};
 
@@ -10,7 +10,7 @@ use records::Record;
 
 /// The rows that the records of a network file fill: of the stops' names, of the walks, of the timetables and their connections,
 /// of the roads and their points, and of the arcs.
-#[derive(Clone, Copy, Drop)]
+#[derive(Clone, Copy, Debug, Default, Drop, PartialEq, Eq)]
 pub struct Counts {
     pub stops: usize,
     pub walks: usize,
@@ -22,14 +22,14 @@ pub struct Counts {
 }
 
 /// The list that rows are added to: its place among the lists, and the rows that it has so far.
-#[derive(Clone, Copy, Drop)]
+#[derive(Clone, Copy, Default, Drop)]
 pub(crate) struct Listing {
     pub(crate) row: usize,
     pub(crate) span: Span,
 }
 
 /// The rows stored so far: their counts, the lists that the timetables and the roads are at, and the place after the last name.
-#[derive(Clone, Copy, Drop)]
+#[derive(Clone, Copy, Default, Drop)]
 pub(crate) struct Progress {
     pub(crate) counts: Counts,
     pub(crate) timetable: Listing,
@@ -38,25 +38,19 @@ pub(crate) struct Progress {
 }
 
 impl Progress {
-    // No rows yet; the first stop stands at a place of the file.
+    /// No rows yet; the first stop stands at a place of the file.
     pub(crate) fn start(end: usize) -> Progress
         ensures { result ≡ unstored end }
     {
-        let list = Listing {
-            row: 0,
-            span: Span { start: 0, len: 0 },
-        };
         Progress {
-            counts: Counts::none(),
-            timetable: list,
-            road: list,
             end,
+            ..Progress::default()
         }
     }
 }
 
 impl Listing {
-    // The list that the next row belongs to, a new one or this one, with the row counted.
+    /// The list that the next row belongs to, a new one or this one, with the row counted.
     pub(crate) fn extended(self, new: bool, lists: usize, rows: usize) -> Listing
         requires { self.span.len ≤ 4294967295 }
         ensures { result ≡ grown (if new then (record { row = lists; span = record { start = rows; len = 0 } }) else self) }
@@ -78,43 +72,23 @@ impl Listing {
 }
 
 impl Counts {
-    pub(crate) fn none() -> Counts
-        ensures { result ≡ none }
+    /// Whether a connection of that service is the first of its timetable: the service was not met before.
+    pub(crate) fn begins_timetable(self, service: u32) -> bool
+        requires { Few self }
+        ensures { result ≡ (service == self.walks + self.timetables) }
     {
-        Counts {
-            stops: 0,
-            walks: 0,
-            timetables: 0,
-            connections: 0,
-            roads: 0,
-            points: 0,
-            arcs: 0,
-        }
+        service as usize == self.walks + self.timetables
     }
 
-    // Whether so many rows fit into tables of these lengths.
-    pub(crate) fn fit(
-        self,
-        names: usize,
-        walks: usize,
-        timetables: usize,
-        connections: usize,
-        roads: usize,
-        points: usize,
-        arcs: usize,
-    ) -> bool
-        ensures { result ≡ (nat_le self.stops names && nat_le self.walks walks && nat_le self.timetables timetables && nat_le self.connections connections && nat_le self.roads roads && nat_le self.points points && nat_le self.arcs arcs) }
+    /// Whether a point of that service is the first of its road.
+    pub(crate) fn begins_road(self, service: u32) -> bool
+        requires { Few self }
+        ensures { result ≡ (service == self.walks + self.timetables + self.roads) }
     {
-        self.stops <= names
-            && self.walks <= walks
-            && self.timetables <= timetables
-            && self.connections <= connections
-            && self.roads <= roads
-            && self.points <= points
-            && self.arcs <= arcs
+        service as usize == self.walks + self.timetables + self.roads
     }
 
-    // The counts with one record more. A timetable or road is counted with its first row, which has a service not met before.
+    /// The counts with one record more. A timetable or road is counted with its first row, which has a service not met before.
     pub(crate) fn with(self, item: Record) -> Counts
         requires { Few self }
         ensures { result ≡ counted self (meant item.entry) }
@@ -124,13 +98,13 @@ impl Counts {
             Record::Stop(_) => next.stops += 1,
             Record::Walk(_) => next.walks += 1,
             Record::Connection { service, .. } => {
-                if service as usize == self.walks + self.timetables {
+                if self.begins_timetable(service) {
                     next.timetables += 1;
                 }
                 next.connections += 1;
             }
             Record::Point { service, .. } => {
-                if service as usize == self.walks + self.timetables + self.roads {
+                if self.begins_road(service) {
                     next.roads += 1;
                 }
                 next.points += 1;

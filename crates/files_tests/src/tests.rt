@@ -1,5 +1,5 @@
 //! A sound network file, each of its truncations, and files with one fault each.
-use files::{Loaded, load};
+use files::{FileTables, Loaded, load};
 use model::{Arc, Connection, Layer, Point, Span};
 use std::test::Fail;
 use wire::Fault;
@@ -11,62 +11,25 @@ const FILE: [u8; 43] = [
     0x01, 0x00, 0x00, 0x00, 0x02, 0x02, 0x01, 0x01, 0x02, 0x04, 0x02,
 ];
 
-const NO_SPAN: Span = Span { start: 0, len: 0 };
-
-const NO_CONNECTION: Connection = Connection {
-    departure: 0,
-    arrival: 0,
-};
-
-const NO_POINT: Point = Point {
-    second: 0,
-    travel: 0,
-};
-
-const NO_ARC: Arc = Arc {
-    tail: 0,
-    head: 0,
-    label: 0,
-    service: 0,
-};
-
 // Loads a file into tables that just hold the sound one.
 fn loaded(file: &[u8]) -> Result<Loaded, Fault> {
-    let mut names = [NO_SPAN; 3];
-    let mut walks = [0u32; 1];
-    let mut timetables = [NO_SPAN; 1];
-    let mut connections = [NO_CONNECTION; 2];
-    let mut roads = [NO_SPAN; 1];
-    let mut points = [NO_POINT; 2];
-    let mut arcs = [NO_ARC; 3];
-    load(
-        file,
-        &mut names,
-        &mut walks,
-        &mut timetables,
-        &mut connections,
-        &mut roads,
-        &mut points,
-        &mut arcs,
-    )
-}
-
-fn same(a: Layer, b: Layer) -> bool {
-    match a {
-        Layer::Number => matches!(b, Layer::Number),
-        Layer::Record => matches!(b, Layer::Record),
-        Layer::Network => matches!(b, Layer::Network),
-    }
+    let mut tables = FileTables {
+        names: &mut [Span::default(); 3],
+        walks: &mut [0; 1],
+        timetables: &mut [Span::default(); 1],
+        connections: &mut [Connection::default(); 2],
+        roads: &mut [Span::default(); 1],
+        points: &mut [Point::default(); 2],
+        arcs: &mut [Arc::default(); 3],
+    };
+    load(file, &mut tables)
 }
 
 // Whether a file is refused by this number, at this place and in this layer.
 fn refused(file: &[u8], number: u8, place: usize, layer: Layer) -> bool {
-    match loaded(file) {
-        Ok(_) => false,
-        Err(fault) => {
-            fault.refusal.number() == number && fault.at == place && same(fault.layer(), layer)
-        }
-    }
+    loaded(file).is_err_and(|fault| {
+        fault.refusal.number() == number && fault.at == place && fault.layer() == layer
+    })
 }
 
 // Whether the sound file with one byte changed is refused so.
@@ -98,23 +61,23 @@ fn sound(rt: HostRuntime) -> Result<(), Fail> {
 
 #[test]
 fn rows(rt: HostRuntime) {
-    let mut names = [NO_SPAN; 4];
+    let mut names = [Span::default(); 4];
     let mut walks = [7u32; 2];
-    let mut timetables = [NO_SPAN; 1];
-    let mut connections = [NO_CONNECTION; 2];
-    let mut roads = [NO_SPAN; 1];
-    let mut points = [NO_POINT; 2];
-    let mut arcs = [NO_ARC; 3];
-    let _ = load(
-        &FILE,
-        &mut names,
-        &mut walks,
-        &mut timetables,
-        &mut connections,
-        &mut roads,
-        &mut points,
-        &mut arcs,
-    );
+    let mut timetables = [Span::default(); 1];
+    let mut connections = [Connection::default(); 2];
+    let mut roads = [Span::default(); 1];
+    let mut points = [Point::default(); 2];
+    let mut arcs = [Arc::default(); 3];
+    let mut tables = FileTables {
+        names: &mut names,
+        walks: &mut walks,
+        timetables: &mut timetables,
+        connections: &mut connections,
+        roads: &mut roads,
+        points: &mut points,
+        arcs: &mut arcs,
+    };
+    let _ = load(&FILE, &mut tables);
     assert_eq!(rt; names[1].start, 5);
     assert_eq!(rt; names[1].len, 1);
     assert_eq!(rt; walks[0], 300);

@@ -1,16 +1,14 @@
 //! The answers to an input's enquiries, printed one after the other.
 use crate::halt::Halt;
-use crate::tables::{ASK_SIZES, FILE_ROWS, load_into};
-use book::{Bank, Book};
-use books::{Roads, Timetables, Walks};
-use contents::{FileContents, lay_book, lay_network};
-use enquiries::enquiry_at;
-use lines::{JourneyLine, LegLine, RefusedLine};
-use model::{Enquiry, Leg, Refusal};
+use crate::tables::{ASK_SIZES, FILE_ROWS};
+use book::Book;
+use contents::{FileContents, lay_book, lay_network, read_rule};
+use enquiries::Enquiries;
+use lines::Slip;
+use model::Enquiry;
 use network::Network;
 use planner::Planner;
-use rulefile::load_rule;
-use rules::{Rule, TableRule};
+use rules::Rule;
 use std::io;
 use wire::Fault;
 use workspace::AskTables;
@@ -18,19 +16,7 @@ use workspace::AskTables;
 /// The mark of the run's one planner.
 const MARK: u32 = 0;
 
-fn print_legs(rt: &HostRuntime, network: Network, legs: &[Leg]) -> io::Result<()> {
-    for leg in legs {
-        if let Some(arc) = network.arcs().get(leg.arc as usize) {
-            let line = LegLine {
-                leg: *leg,
-                arc: *arc,
-            };
-            println!(rt; "{line}")?;
-        }
-    }
-    Ok(())
-}
-
+/// Answers an enquiry, and prints its slip.
 fn answer<B: Book, R: Rule>(
     rt: &HostRuntime,
     network: Network,
@@ -38,22 +24,19 @@ fn answer<B: Book, R: Rule>(
     enquiry: Enquiry,
     tables: &mut AskTables,
 ) -> io::Result<()> {
-    let answered = planner.ask(
+    let answer = planner.ask(
         network,
         enquiry,
-        tables.labels.as_mut_slice(),
-        tables.slots.as_mut_slice(),
+        &mut tables.space.lend(),
         tables.slip.as_mut_slice(),
     );
-    match answered {
-        Ok(found) => {
-            let line = JourneyLine { enquiry, found };
-            println!(rt; "{line}")?;
-            let legs = tables.slip.len().min(found.legs as usize);
-            print_legs(rt, network, &tables.slip.as_slice()[0..legs])
-        }
-        Err(refusal) => println!(rt; "{}", RefusedLine(refusal)),
-    }
+    let slip = Slip {
+        enquiry,
+        answer,
+        arcs: network.arcs(),
+        legs: tables.slip.as_slice(),
+    };
+    println!(rt; "{slip}")
 }
 
 /// Answers the enquiries that stand in the input from a place on.
@@ -65,53 +48,26 @@ fn answer_enquiries<B: Book, R: Rule>(
     from: usize,
 ) -> Result<(), Halt> {
     let mut tables = AskTables::new(rt.alloc(), ASK_SIZES)?;
-    let mut at = from;
-    // an enquiry takes three bytes at least, so there are fewer of them than bytes
-    for _ in 0..input.len() {
-        if at >= input.len() {
-            break;
-        }
-        let (enquiry, next) = enquiry_at(input, at)?;
-        answer(rt, network, planner, enquiry, &mut tables)?;
-        at = next;
+    for enquiry in Enquiries::new(input, from) {
+        answer(rt, network, planner, enquiry?, &mut tables)?;
     }
     Ok(())
-}
-
-/// A refusal of what was loaded from a file that ends at a place.
-fn refused_at(refusal: Refusal, at: usize) -> Halt {
-    Halt::Fault(Fault { refusal, at })
-}
-
-/// The rule of the file that begins at a place of the input, and the place after it.
-fn read_rule(input: &[u8], at: usize) -> Result<(TableRule, usize), Halt> {
-    let mut rule = match TableRule::new(1, &[None; 6], &[false]) {
-        Ok(rule) => rule,
-        Err(fault) => return Err(refused_at(fault.refusal(), at)),
-    };
-    let end = load_rule(input, at, &mut rule)?;
-    Ok((rule, end))
 }
 
 /// Reads the files at the front of the input, and answers the enquiries after them.
 pub fn answer_all(rt: &HostRuntime, input: &[u8]) -> Result<(), Halt> {
     let mut tables = FileContents::new(rt.alloc(), FILE_ROWS)?;
-    let loaded = load_into(&mut tables, input)?;
+    let loaded = tables.load(input)?;
     let (rule, enquiries) = read_rule(input, loaded.end)?;
-    let mut book = Bank {
-        first: Bank {
-            first: Walks::empty(),
-            second: Timetables::empty(),
-        },
-        second: Roads::empty(),
-    };
-    if let Err(fault) = lay_book(&mut book, &tables, loaded.counts) {
-        return Err(refused_at(fault.refusal(), loaded.end));
-    }
-    let mut network = Network::empty();
-    if let Err(fault) = lay_network(&mut network, &tables, loaded.counts) {
-        return Err(refused_at(fault.refusal(), loaded.end));
-    }
+    let at = loaded.end;
+    let book = lay_book(&tables, loaded.counts).map_err(|fault| Fault {
+        refusal: fault.into(),
+        at,
+    })?;
+    let network = lay_network(&tables, loaded.counts).map_err(|fault| Fault {
+        refusal: fault.into(),
+        at,
+    })?;
     let planner = Planner::new(book, rule, MARK);
     answer_enquiries(rt, network, &planner, input, enquiries)
 }

@@ -11,34 +11,30 @@ use lines::FaultLine;
 use model::Refusal;
 use std::io;
 use std::io::Read;
+use tables::LONGEST_INPUT;
 use wire::Fault;
-
-/// The longest input, in bytes.
-const LONGEST: usize = 16_384;
 
 /// The input, or as much of it as shows that it is too long.
 fn read_input(rt: &HostRuntime) -> io::Result<Vec<u8>> {
     let mut input = Vec::new(rt.alloc());
-    rt.stdin().take(LONGEST as u64 + 1).read_to_end(&mut input)?;
+    rt.stdin()
+        .take(LONGEST_INPUT as u64 + 1)
+        .read_to_end(&mut input)?;
     Ok(input)
 }
 
 fn print_fault(rt: &HostRuntime, fault: Fault) -> io::Result<()> {
-    let line = FaultLine {
-        refusal: fault.refusal,
-        at: fault.at,
-    };
-    println!(rt; "{line}")
+    println!(rt; "{}", FaultLine(fault))
 }
 
 fn main(rt: HostRuntime) -> io::Result<()> {
     let input = read_input(&rt)?;
-    if input.len() > LONGEST {
+    if input.len() > LONGEST_INPUT {
         return print_fault(
             &rt,
             Fault {
                 refusal: Refusal::FileEndsEarly,
-                at: LONGEST,
+                at: LONGEST_INPUT,
             },
         );
     }

@@ -1,23 +1,24 @@
 -- What the parts write is what the format of the network file writes, and what they accept is what a file can hold.
-use Rattle.std.proofs.Common.{◌≡◌, ℕ, ◌+◌, ◌<◌, ◌≤◌, Bool, true, false, cond, ◌&&◌, eqb, ltb, leb, List, [], ◌∷◌, ◌++◌, map, length, drop, Some, None, Ok, Err, Option, Result, sym, refl, ap, ◌∙◌, subst, ap₂, zero-add, arith}
+use Rattle.std.proofs.Common.{◌≡◌, ℕ, ◌+◌, ◌<◌, ◌≤◌, Bool, true, false, cond, eqb, leb, List, [], ◌∷◌, ◌++◌, map, length, drop, Some, None, Ok, Err, Option, Result, sym, refl, ap, ◌∙◌, subst, ap₂, zero-add, arith}
+use lib.Seq.{paste}
 use Rattle.std.proofs.lemmas.List.Edits.{paste_all}
 use Rattle.std.proofs.lemmas.List.{length-map}
-use Rattle.std.proofs.lemmas.Bool.{leb-true, ltb-true, eqb-true, le-leb, lt-leb, lt-ltb, eq-eqb}
+use Rattle.std.proofs.lemmas.Bool.Decides.{nat_tests}
+use Rattle.std.proofs.lemmas.Bool.{eqb-true, le-leb, lt-leb, eq-eqb}
 use Rattle.model.specs.declared.network.Arc.{Arc}
 use Rattle.model.specs.declared.tables.Connection.{Connection}
 use Rattle.model.specs.declared.tables.Point.{Point}
 use Rattle.model.specs.declared.tables.Span.{Span}
 use Rattle.model.specs.declared.refusal.Refusal.{Refusal}
-use Rattle.model.specs.declared.refusal.Refusal.TheVariants.{StopCount, NameLength, ServiceField, ArcCount, ArcField, NoSuchService, TailFalls, OutputShort}
-use Rattle.model.specs.Clock.{horizon}
+use Rattle.model.specs.declared.refusal.Refusal.TheVariants.{StopCount, NameLength, ServiceField, ArcCount, OutputShort}
 use Rattle.formats.specs.Contents.{services}
-use Rattle.formats.specs.NetworkFile.{stop, stop_count, stops, run_count, walk, connection, departed, timetable, reached, least_second, least_reached, point, passed, road, arc, left, arcs, network}
+use Rattle.formats.specs.NetworkFile.{stop, stop_count, stops, run_count, walk, connection, departed, timetable, point, passed, road, arc, left, arcs, network}
 use Rattle.wire.specs.Grammar.{Format, write_all, FineAll}
 use Rattle.wire.specs.Numbers.{encode}
 use Rattle.wire.proofs.Laws.{file_held}
 use Rattle.formats.proofs.NetworkFile.{network_lawful}
-use Rattle.writer.proofs.Emitting.{answered_ok}
-use Rattle.writer.specs.Emission.{answered, or_else, outside, Emits, refused_all, bytes_all, list_refusal, list_bytes}
+use Rattle.writer.proofs.Emitting.{answered_ok, in_limits}
+use Rattle.writer.specs.Emission.{answered, or_else, outside, refused_all, bytes_all, list_refusal, list_bytes}
 use Rattle.meanings.specs.Spans.{rows}
 use Rattle.writer.specs.Parts.{lies, name_refusal, name_bytes, walk_refusal, connection_refusal, point_refusal, arc_refusal, onward, timetable_refusal, timetable_bytes, road_refusal, road_bytes}
 use Rattle.writer.specs.Networks.{NetworkTables, held, service_count, network_refusal, network_bytes, AllLie, Rowed, written, Writes}
@@ -30,11 +31,6 @@ none_first (Some k) b e = let z : ◌≡◌ {A = ℕ} 0 1 = cc in absurd (omega 
 unrefused : (t : Bool) (k : Refusal) → cond t None (Some k) ≡ None → t ≡ true
 unrefused true k e = refl
 unrefused false k e = let z : ◌≡◌ {A = ℕ} 0 1 = cc in absurd (omega arith)
-
-both_true : (a b : Bool) → (a && b) ≡ true → (a ≡ true) × (b ≡ true)
-both_true true true e = (refl, refl)
-both_true true false e = let z : ◌≡◌ {A = ℕ} 0 1 = cc in absurd (omega arith)
-both_true false b e = let z : ◌≡◌ {A = ℕ} 0 1 = cc in absurd (omega arith)
 
 -- lists of the things themselves
 module _ {S A : Type 0} (F : S → Format A) (next : S → A → S) where
@@ -62,41 +58,27 @@ module _ {A B : Type 0} (view : A → B) (F : Format B) where
 
 -- the things of a network, one by one
 
-within : (lo hi : ℕ) (k : Refusal) (n : ℕ) → outside lo hi k n ≡ None → (lo ≤ n) × (n ≤ hi)
-within lo hi k n e = let t = both_true (leb lo n) (leb n hi) (unrefused _ k e) in (leb-true lo n t.0, leb-true n hi t.1)
-
 name_fine : (names : List ℕ) (row : Span) → name_refusal names tt row ≡ None → stop.Fine (rows names row)
-name_fine names row e = within 1 40 NameLength (length (rows names row)) (none_first (cond (lies names row) None (Some NameLength)) _ e).1
+name_fine names row e = in_limits 1 40 NameLength (length (rows names row)) (none_first (cond (lies names row) None (Some NameLength)) _ e).1
 
 connection_fine : (last : ℕ) (c : Connection) → connection_refusal last c ≡ None → (connection last).Fine c
-connection_fine last c e =
-    let t = both_true (leb last c.departure) (leb c.departure c.arrival && leb c.arrival horizon) (unrefused _ ServiceField e) in
-    let u = both_true (leb c.departure c.arrival) (leb c.arrival horizon) t.1 in
-    (leb-true last c.departure t.0, leb-true c.departure c.arrival u.0, leb-true c.arrival horizon u.1)
+connection_fine last c e = grind (arith, nat_tests)
 
 point_fine : (before : Option Point) (p : Point) → point_refusal before p ≡ None → (point before).Fine p
-point_fine before p e =
-    let t = both_true (leb (least_second before) p.second) (leb (least_reached before) (reached p) && leb (reached p) horizon) (unrefused _ ServiceField e) in
-    let u = both_true (leb (least_reached before) (reached p)) (leb (reached p) horizon) t.1 in
-    (leb-true (least_second before) p.second t.0, leb-true (least_reached before) (reached p) u.0, leb-true (reached p) horizon u.1)
+point_fine before p e = grind (arith, nat_tests)
 
 arc_fine : (stops services last : ℕ) (a : Arc) → arc_refusal stops services last a ≡ None → (arc stops services last).Fine a
-arc_fine stops services last a e =
-    let p = none_first (cond (ltb a.tail stops && (ltb a.head stops && leb a.label 5)) None (Some ArcField)) _ e in
-    let q = none_first (cond (ltb a.service services) None (Some NoSuchService)) _ p.1 in
-    let t = both_true (ltb a.tail stops) (ltb a.head stops && leb a.label 5) (unrefused _ ArcField p.0) in
-    let u = both_true (ltb a.head stops) (leb a.label 5) t.1 in
-    ((ltb-true a.tail stops t.0, ltb-true a.head stops u.0, leb-true a.label 5 u.1, ltb-true a.service services (unrefused _ NoSuchService q.0)), unrefused _ TailFalls q.1)
+arc_fine stops services last a e = grind (arith, nat_tests)
 
 list_fine : {S A : Type 0} (lo hi : ℕ) (k : Refusal) (F : S → Format A) (next : S → A → S) (f : S → A → Option Refusal) → ((s : S) (a : A) → f s a ≡ None → (F s).Fine a) → (s : S) (xs : List A) →
     list_refusal lo hi k f next s xs ≡ None → ((lo ≤ length xs) × (length xs ≤ hi)) × FineAll F next s xs
-list_fine lo hi k F next f item s xs e = let p = none_first (outside lo hi k (length xs)) (refused_all f next s xs) e in (within lo hi k (length xs) p.0, fine_list F next f item xs s p.1)
+list_fine lo hi k F next f item s xs e = let p = none_first (outside lo hi k (length xs)) (refused_all f next s xs) e in (in_limits lo hi k (length xs) p.0, fine_list F next f item xs s p.1)
 
 rows_fine : {B : Type 0} (lo hi : ℕ) (k : Refusal) (view : Span → B) (F : Format B) (f : Unit {0} → Span → Option Refusal) → ((a : Span) → f tt a ≡ None → F.Fine (view a)) → (xs : List Span) →
     list_refusal lo hi k f onward tt xs ≡ None → ((lo ≤ length (map view xs)) × (length (map view xs) ≤ hi)) × FineAll {S = Unit {0}} (λ _. F) (λ _ _. tt) tt (map view xs)
 rows_fine lo hi k view F f item xs e =
     let p = none_first (outside lo hi k (length xs)) (refused_all f onward tt xs) e in
-    let w = within lo hi k (length xs) p.0 in
+    let w = in_limits lo hi k (length xs) p.0 in
     let l = length-map xs view in
     ((omega (arith, w.0), omega (arith, w.1)), fine_rows view F f item xs p.1)
 
@@ -121,7 +103,7 @@ network_fine stops t e =
     let a = list_fine 0 8192 ArcCount (arc stops (service_count t)) left (arc_refusal stops (service_count t)) (arc_fine stops (service_count t)) 0 t.arcs p₄.1 in
     record {
       names = rows_fine 1 1024 StopCount (rows t.names) stop (name_refusal t.names) (name_fine t.names) t.stops p₁.0;
-      walks = list_fine {S = Unit {0}} 0 4096 ServiceField (λ _. walk) (λ _ _. tt) walk_refusal (λ _ w e. within 0 86400 ServiceField w e) tt t.walks p₂.0;
+      walks = list_fine {S = Unit {0}} 0 4096 ServiceField (λ _. walk) (λ _ _. tt) walk_refusal (λ _ w e. in_limits 0 86400 ServiceField w e) tt t.walks p₂.0;
       timetables = rows_fine 0 4096 ServiceField (rows t.connections) timetable (timetable_refusal t.connections) (timetable_fine t.connections) t.timetables p₃.0;
       roads = rows_fine 0 4096 ServiceField (rows t.points) road (road_refusal t.points) (road_fine t.points) t.roads p₄.0;
       arcs = subst (λ n. (arcs n (services (held t))).Fine t.arcs) (sym names) (subst (λ m. (arcs stops m).Fine t.arcs) (sym all) a);
@@ -154,11 +136,8 @@ none_both a b p q = ap (λ o. or_else o b) p ∙ q
 passes : (t : Bool) (k : Refusal) → t ≡ true → cond t None (Some k) ≡ None
 passes t k e = ap (λ b. cond b None (Some k)) e
 
-and_true : (a b : Bool) → a ≡ true → b ≡ true → (a && b) ≡ true
-and_true a b p q = ap (λ c. c && b) p ∙ q
-
 inside : (lo hi : ℕ) (k : Refusal) (n : ℕ) → lo ≤ n → n ≤ hi → outside lo hi k n ≡ None
-inside lo hi k n low high = passes _ k (and_true (leb lo n) (leb n hi) (le-leb lo n low) (le-leb n hi high))
+inside lo hi k n low high = grind (arith, nat_tests)
 
 list_none : {S A : Type 0} (F : S → Format A) (next : S → A → S) (f : S → A → Option Refusal) → ((s : S) (a : A) → (F s).Fine a → f s a ≡ None) → (xs : List A) (s : S) → FineAll F next s xs → refused_all f next s xs ≡ None
 unfolding refused_all FineAll
@@ -172,15 +151,13 @@ rows_none table view F f item [] lie fine = refl
 rows_none table view F f item (row ∷ xs) lie fine = none_both (f tt row) (refused_all f onward tt xs) (item row lie.0 fine.0) (rows_none table view F f item xs lie.1 fine.1)
 
 connection_none : (last : ℕ) (c : Connection) → (connection last).Fine c → connection_refusal last c ≡ None
-connection_none last c fine = passes _ ServiceField (and_true (leb last c.departure) _ (le-leb last c.departure fine.0) (and_true (leb c.departure c.arrival) _ (le-leb c.departure c.arrival fine.1) (le-leb c.arrival horizon fine.2)))
+connection_none last c fine = grind (arith, nat_tests)
 
 point_none : (before : Option Point) (p : Point) → (point before).Fine p → point_refusal before p ≡ None
-point_none before p fine = passes _ ServiceField (and_true (leb (least_second before) p.second) _ (le-leb (least_second before) p.second fine.0) (and_true (leb (least_reached before) (reached p)) _ (le-leb (least_reached before) (reached p) fine.1) (le-leb (reached p) horizon fine.2)))
+point_none before p fine = grind (arith, nat_tests)
 
 arc_none : (stops services last : ℕ) (a : Arc) → (arc stops services last).Fine a → arc_refusal stops services last a ≡ None
-arc_none stops services last a fine =
-    none_both _ _ (passes _ ArcField (and_true (ltb a.tail stops) _ (lt-ltb a.tail stops fine.0.0) (and_true (ltb a.head stops) _ (lt-ltb a.head stops fine.0.1) (le-leb a.label 5 fine.0.2))))
-    (none_both _ _ (passes _ NoSuchService (lt-ltb a.service services fine.0.3)) (passes _ TailFalls fine.1))
+arc_none stops services last a fine = grind (arith, nat_tests)
 
 timetable_none : (table : List Connection) (row : Span) → lies table row ≡ true → timetable.Fine (rows table row) → timetable_refusal table tt row ≡ None
 timetable_none table row lie fine =
@@ -221,7 +198,7 @@ module _ (stops : ℕ) (t : NetworkTables) (before : List ℕ) where
     answer = answer;
     output = output;
     reads_back = λ n is.
-        let a = answered_ok (or_else (network_refusal stops t) (cond (leb (length (network.write (held t))) (length before)) None (Some OutputShort))) (length (network.write (held t))) n (sym is ∙ answer) in
+        let a = answered_ok (or_else (network_refusal stops t) (cond (leb (length (network.write (held t))) (length before)) None (Some OutputShort))) n (length (network.write (held t))) (sym is ∙ answer) in
         let fine = network_fine stops t (none_first (network_refusal stops t) _ a.0).0 in
         network_lawful.back (held t) after (drop (length (network.write (held t))) before) 0 fine (output ∙ ap (λ q. written q (network.write (held t)) before) is)
         ∙ ap (λ k. Ok (held t, k)) (omega (arith, a.1));
@@ -244,12 +221,12 @@ module _ (stops : ℕ) (t : NetworkTables) (before : List ℕ) where
       let test : leb n (length before) ≡ false = lt-leb n (length before) (omega (arith, same_bytes)) in
       says before (Err OutputShort) (sym (ap (λ o. answered (or_else o (cond (leb n (length before)) None (Some OutputShort))) n) e ∙ ap (λ b. answered (cond b None (Some OutputShort)) n) test)) refl
 
-  pub writes_network : (after : List ℕ) (r : Result ℕ Refusal) → network_refusal stops t ≡ None → length (network_bytes t) ≤ length before → Emits (network_refusal stops t) (network_bytes t) 0 before after r → Writes stops t before after r
-  writes_network after r e room h =
+  pub writes_network : (after : List ℕ) → network_refusal stops t ≡ None → length (network_bytes t) ≤ length before → after ≡ paste before 0 (network_bytes t) (length (network_bytes t)) → Writes stops t before after (Ok (length (network_bytes t)))
+  writes_network after e room pasted =
       let n = length (network.write (held t)) in
       let test : leb n (length before) ≡ true = le-leb n (length before) (omega (arith, same_bytes)) in
-      let is : r ≡ Ok n = h.answer ∙ ap (λ o. answered o (0 + length (network_bytes t))) e ∙ ap Ok (omega (arith, same_bytes)) in
+      let is : ◌≡◌ {A = Result ℕ Refusal} (Ok (length (network_bytes t))) (Ok n) = ap Ok (sym same_bytes) in
       let all : after ≡ network_bytes t ++ drop (length (network_bytes t)) before =
-      h.output e (omega arith) ∙ paste_all before 0 (network_bytes t) (length (network_bytes t)) refl ∙ ap (λ k. network_bytes t ++ drop k before) (zero-add (length (network_bytes t))) in
-      says after r (is ∙ sym (ap (λ o. answered (or_else o (cond (leb n (length before)) None (Some OutputShort))) n) e ∙ ap (λ b. answered (cond b None (Some OutputShort)) n) test))
-      (all ∙ ap (λ bs. bs ++ drop (length bs) before) (sym (network_bytes_lem t)) ∙ sym (ap (λ q. written q (network.write (held t)) before) is))
+      pasted ∙ paste_all before 0 (network_bytes t) (length (network_bytes t)) refl ∙ ap (λ k. network_bytes t ++ drop k before) (zero-add (length (network_bytes t))) in
+      says after (Ok (length (network_bytes t))) (is ∙ sym (ap (λ o. answered (or_else o (cond (leb n (length before)) None (Some OutputShort))) n) e ∙ ap (λ b. answered (cond b None (Some OutputShort)) n) test))
+      (all ∙ ap (λ bs. bs ++ drop (length bs) before) (sym (network_bytes_lem t)))

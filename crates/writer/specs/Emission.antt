@@ -3,31 +3,30 @@ use Rattle.std.specs.Prelude.{◌≡◌, ℕ, ◌+◌, ◌≤◌, cond, ◌&&◌
 use Rattle.std.proofs.Math.Seq.{paste}
 use Rattle.model.specs.declared.refusal.Refusal.{Refusal}
 use Rattle.wire.specs.Numbers.{encode}
+use Rattle.writer.specs.declared.cursor.Cursor.{Cursor}
 
--- a place, unless there is a refusal
-abbrev pub answered : Option Refusal → ℕ → Result ℕ Refusal
-answered None to = Ok to
-answered (Some k) to = Err k
-
--- nothing to say, unless there is a refusal
-abbrev pub passing : Option Refusal → Result (Unit {0}) Refusal
-passing None = Ok tt
-passing (Some k) = Err k
+-- a value, unless there is a refusal
+abbrev pub answered : {V : Type 0} → Option Refusal → V → Result V Refusal
+answered None v = Ok v
+answered (Some k) v = Err k
 
 -- the first of two refusals
 abbrev pub or_else : Option Refusal → Option Refusal → Option Refusal
 or_else None o = o
 or_else (Some k) o = Some k
 
--- a call that is refused, or answers the place after some bytes, which then stand in the output if it has room for all of them
-pub record Emits (refusal : Option Refusal) (bytes : List ℕ) (at : ℕ) (before after : List ℕ) (r : Result ℕ Refusal) : Type 0 where
-  pub answer : r ≡ answered refusal (at + length bytes)
-  pub output : refusal ≡ None → at + length bytes ≤ length before → after ≡ paste before at bytes (length bytes)
+-- a call that is refused, or answers a value and goes on behind some bytes, which then stand in the output if it has room for all
+-- of them; it goes on by at most so many places, refused or not
+pub record Emits {V : Type 0} (most : ℕ) (refusal : Option Refusal) (bytes : List ℕ) (value : V) (before after : Cursor) (r : Result V Refusal) : Type 0 where
+  pub answer : r ≡ answered refusal value
+  pub place : refusal ≡ None → after.at ≡ before.at + length bytes
+  pub output : refusal ≡ None → before.at + length bytes ≤ length before.out.now → after.out.now ≡ paste before.out.now before.at bytes (length bytes)
+  pub small : after.at ≤ before.at + most
+  pub same : after.out.ghost_name ≡ before.out.ghost_name
 
--- no more than so many bytes
-abbrev pub Small : ℕ → ℕ → Result ℕ Refusal → Type 0
-Small most at (Ok to) = to ≤ at + most
-Small most at (Err k) = Unit {0}
+-- a call that cannot be refused
+abbrev pub Appends : ℕ → List ℕ → Cursor → Cursor → Type 0
+Appends most bytes before after = Emits {V = Unit {0}} most None bytes tt before after (Ok tt)
 
 -- a number from lo to hi, else the refusal k
 abbrev pub outside : ℕ → ℕ → Refusal → ℕ → Option Refusal

@@ -1,3 +1,4 @@
 pub mod Emission
 pub mod Parts
 pub mod Networks
+pub mod Lent

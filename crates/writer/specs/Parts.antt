@@ -55,15 +55,21 @@ arc_bytes _ a = encode a.tail ++ (encode a.head ++ (encode a.label ++ encode a.s
 abbrev pub onward : {A : Type 0} → Unit {0} → A → Unit {0}
 onward _ _ = tt
 
--- the lists of one service
+-- the list of one service: the part of a table that a row names, with its count before it
+abbrev pub part_refusal : {S A : Type 0} → ℕ → ℕ → Refusal → (S → A → Option Refusal) → (S → A → S) → S → List A → Span → Option Refusal
+part_refusal lo hi k f next s table row = or_else (cond (lies table row) None (Some k)) (list_refusal lo hi k f next s (rows table row))
+
+abbrev pub part_bytes : {S A : Type 0} → (S → A → List ℕ) → (S → A → S) → S → List A → Span → List ℕ
+part_bytes w next s table row = list_bytes w next s (rows table row)
+
 abbrev pub timetable_refusal : List Connection → Unit {0} → Span → Option Refusal
-timetable_refusal table _ row = or_else (cond (lies table row) None (Some ServiceField)) (list_refusal 1 512 ServiceField connection_refusal departed 0 (rows table row))
+timetable_refusal table _ row = part_refusal 1 512 ServiceField connection_refusal departed 0 table row
 
 abbrev pub timetable_bytes : List Connection → Unit {0} → Span → List ℕ
-timetable_bytes table _ row = list_bytes connection_bytes departed 0 (rows table row)
+timetable_bytes table _ row = part_bytes connection_bytes departed 0 table row
 
 abbrev pub road_refusal : List Point → Unit {0} → Span → Option Refusal
-road_refusal table _ row = or_else (cond (lies table row) None (Some ServiceField)) (list_refusal 1 96 ServiceField point_refusal passed None (rows table row))
+road_refusal table _ row = part_refusal 1 96 ServiceField point_refusal passed None table row
 
 abbrev pub road_bytes : List Point → Unit {0} → Span → List ℕ
-road_bytes table _ row = list_bytes point_bytes passed None (rows table row)
+road_bytes table _ row = part_bytes point_bytes passed None table row

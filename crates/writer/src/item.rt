@@ -1,223 +1,202 @@
-//! What one thing of a network file is written as.
-ghost use Rattle.std.specs.Prelude.{◌≡◌, ◌+◌, ◌-◌, ◌^◌, ◌≤◌, cond, ◌&&◌, ◌++◌, length, None, nat_le};
-ghost use Rattle.std.proofs.Math.Seq.{paste};
-ghost use Rattle.wire.specs.Numbers.{encode};
+//! How the things that a network file lists are written.
+ghost use Rattle.std.specs.Prelude.{◌≡◌, ◌+◌, ◌*◌, ◌^◌, ◌≤◌, ◌&&◌, true, false, length, MatchOption, nat_le};
 ghost use Rattle.model.specs.Clock.{horizon};
-ghost use Rattle.model.specs.declared.refusal.Refusal.TheVariants.{NameLength};
-ghost use Rattle.formats.specs.NetworkFile.{stop, reached, second_before, least_second, least_reached};
-ghost use Rattle.writer.specs.Emission.{Emits, Small, outside, passing};
-ghost use Rattle.writer.specs.Parts.{name_refusal, name_bytes, walk_refusal, walk_bytes, connection_refusal, connection_bytes, point_refusal, point_bytes, arc_refusal, arc_bytes};
+ghost use Rattle.formats.specs.NetworkFile.{departed, passed, left, reached, least_second, least_reached};
+ghost use Rattle.meanings.specs.Spans.{rows};
+ghost use Rattle.writer.specs.Emission.{answered};
+ghost use Rattle.writer.specs.Parts.{lies, part_refusal, part_bytes, name_refusal, name_bytes, walk_refusal, walk_bytes, connection_refusal, connection_bytes, point_refusal, point_bytes, arc_refusal, arc_bytes, onward};
 
-use model::{Arc, Connection, HORIZON, Point, Refusal, Span};
-use wire::{encoded_len, put};
+use crate::cursor::{Cursor, Limits};
+use crate::list::{Listed, emit_list};
+use formats::{least_arrival, least_second, second_before};
+use model::{Arc, Connection, HORIZON, LABELS, LONGEST_NAME, LONGEST_WALK, Point, Refusal, Span};
 
-/// The last label.
-const LAST_LABEL: u32 = 5;
-/// A walk's most seconds.
-const LONGEST_WALK: usize = 86_400;
-/// A name's most bytes.
-const LONGEST_NAME: usize = 40;
+/// A name's bytes.
+const NAME: Limits = Limits {
+    low: 1,
+    high: LONGEST_NAME as usize,
+    refusal: Refusal::NameLength,
+};
+/// A walk's seconds.
+const WALK: Limits = Limits {
+    low: 0,
+    high: LONGEST_WALK as usize,
+    refusal: Refusal::ServiceField,
+};
 
-// A number, at a place of an output if it has room there; the answer is the place after it.
-pub(crate) fn emit_number(n: u32, out: &mut [u8], at: usize) -> usize
-    requires { at ≤ 2 ^ 42 }
-    ensures says { result ≡ at + length (encode n) }
-    ensures output { at + length (encode n) ≤ length out.old → out.new ≡ paste out.old at (encode n) (length (encode n)) }
-    ensures small { result ≤ at + 5 }
+/// The part of a table that a row names, if it lies within the table.
+fn part<T>(table: &[T], row: Span) -> Option<&[T]>
+    ensures { MatchOption result (lies table.now row ≡ false) (λ part. (lies table.now row ≡ true) × (part.now ≡ rows table.now row)) }
 {
-    put(n, out, at);
-    at + encoded_len(n)
-}
-
-// Two numbers, one after the other.
-fn emit_pair(m: u32, n: u32, out: &mut [u8], at: usize) -> usize
-    requires { at ≤ 2 ^ 41 }
-    ensures says { result ≡ at + length (encode m ++ encode n) }
-    ensures output { at + length (encode m ++ encode n) ≤ length out.old → out.new ≡ paste out.old at (encode m ++ encode n) (length (encode m ++ encode n)) }
-    ensures small { result ≤ at + 10 }
-{
-    let middle = emit_number(m, out, at);
-    emit_number(n, out, middle)
-}
-
-// A number from `low` to `high`; any other is refused.
-pub(crate) fn emit_in(
-    n: usize,
-    low: usize,
-    high: usize,
-    refusal: Refusal,
-    out: &mut [u8],
-    at: usize,
-) -> Result<usize, Refusal>
-    requires place { at ≤ 2 ^ 40 }
-    requires top { high ≤ 86400 }
-    ensures says { Emits (outside low high refusal n) (encode n) at out.old out.new result }
-    ensures small { Small 5 at result }
-{
-    if low <= n && n <= high {
-        Ok(emit_number(n as u32, out, at))
+    if row.start <= table.len() && row.len <= table.len() - row.start {
+        Some(&table[row.start..row.start + row.len])
     } else {
-        Err(refusal)
+        None
     }
 }
 
-// A walk's seconds.
-pub(crate) fn emit_walk(seconds: u32, out: &mut [u8], at: usize) -> Result<usize, Refusal>
-    requires { at ≤ 2 ^ 40 }
-    ensures says { Emits (walk_refusal tt seconds) (walk_bytes tt seconds) at out.old out.new result }
-    ensures small { Small 5 at result }
-{
-    emit_in(
-        seconds as usize,
-        0,
-        LONGEST_WALK,
-        Refusal::ServiceField,
-        out,
-        at,
-    )
+/// Stops, each a name that is a part of a table, with its length before it.
+#[derive(Clone, Copy, Drop)]
+pub(crate) struct Names<'a> {
+    pub(crate) table: &'a [u8],
 }
 
-// A connection, after one that departs at the second `last`.
-pub(crate) fn emit_connection(
-    last: u32,
-    c: Connection,
-    out: &mut [u8],
-    at: usize,
-) -> Result<usize, Refusal>
-    requires { at ≤ 2 ^ 40 }
-    ensures says { Emits (connection_refusal last c) (connection_bytes last c) at out.old out.new result }
-    ensures small { Small 10 at result }
-{
-    if last <= c.departure && c.departure <= c.arrival && c.arrival <= HORIZON {
-        Ok(emit_pair(c.departure - last, c.arrival - c.departure, out, at))
-    } else {
-        Err(Refusal::ServiceField)
+impl Listed<Span, ()> for Names<'_> {
+    ghost refusal = { λ it. name_refusal it.table.now };
+
+    ghost bytes = { λ it. name_bytes it.table.now };
+
+    ghost next = { onward };
+
+    ghost most = { λ _. 45 };
+
+    fn emit(&self, _before: (), row: Span, to: &mut Cursor<'_>) -> Result<(), Refusal> {
+        let name = part(self.table, row).ok_or(Refusal::NameLength)?;
+        to.number_in(NAME, name.len())?;
+        to.bytes(name);
+        Ok(())
     }
 }
 
-// Whether a point may follow another on a road, if there is one.
+/// Walks, each its seconds.
+#[derive(Clone, Copy, Drop)]
+pub(crate) struct Walks;
+
+impl Listed<u32, ()> for Walks {
+    ghost refusal = { λ _. walk_refusal };
+
+    ghost bytes = { λ _. walk_bytes };
+
+    ghost next = { onward };
+
+    ghost most = { λ _. 5 };
+
+    fn emit(&self, _before: (), seconds: u32, to: &mut Cursor<'_>) -> Result<(), Refusal> {
+        to.number_in(WALK, seconds as usize)
+    }
+}
+
+/// Connections, each after one that departs at the second `last`.
+#[derive(Clone, Copy, Drop)]
+pub(crate) struct Connections;
+
+impl Listed<Connection, u32> for Connections {
+    ghost refusal = { λ _. connection_refusal };
+
+    ghost bytes = { λ _. connection_bytes };
+
+    ghost next = { departed };
+
+    ghost most = { λ _. 10 };
+
+    fn emit(&self, last: u32, c: Connection, to: &mut Cursor<'_>) -> Result<u32, Refusal> {
+        if last > c.departure || c.departure > c.arrival || c.arrival > HORIZON {
+            return Err(Refusal::ServiceField);
+        }
+        to.pair(c.departure - last, c.arrival - c.departure);
+        Ok(c.departure)
+    }
+}
+
+/// Points of a road, each after another.
+#[derive(Clone, Copy, Drop)]
+pub(crate) struct Points;
+
+impl Listed<Point, Option<Point>> for Points {
+    ghost refusal = { λ _. point_refusal };
+
+    ghost bytes = { λ _. point_bytes };
+
+    ghost next = { passed };
+
+    ghost most = { λ _. 10 };
+
+    fn emit(
+        &self,
+        before: Option<Point>,
+        p: Point,
+        to: &mut Cursor<'_>,
+    ) -> Result<Option<Point>, Refusal> {
+        if !follows(before, p) {
+            return Err(Refusal::ServiceField);
+        }
+        to.pair(p.second - second_before(before), p.travel);
+        Ok(Some(p))
+    }
+}
+
+/// Whether a point may follow another on a road, if there is one.
 fn follows(before: Option<Point>, p: Point) -> bool
     ensures { result ≡ (nat_le (least_second before) p.second && (nat_le (least_reached before) (reached p) && nat_le (reached p) horizon)) }
 {
-    let arrival = p.second as u64 + p.travel as u64;
-    match before {
-        None => arrival <= HORIZON as u64,
-        Some(last) => {
-            last.second < p.second
-                && last.second as u64 + last.travel as u64 <= arrival
-                && arrival <= HORIZON as u64
+    let arrival = p.reached();
+    arrival <= HORIZON as u64
+        && least_second(before) <= p.second as u64
+        && least_arrival(before) <= arrival
+}
+
+/// Arcs, each after one whose tail is `last`.
+#[derive(Clone, Copy, Drop)]
+pub(crate) struct Arcs {
+    pub(crate) stops: u32,
+    pub(crate) services: u32,
+}
+
+impl Listed<Arc, u32> for Arcs {
+    ghost refusal = { λ it. arc_refusal it.stops it.services };
+
+    ghost bytes = { λ _. arc_bytes };
+
+    ghost next = { left };
+
+    ghost most = { λ _. 20 };
+
+    fn emit(&self, last: u32, a: Arc, to: &mut Cursor<'_>) -> Result<u32, Refusal> {
+        self.admits(last, a)?;
+        to.pair(a.tail, a.head);
+        to.pair(a.label, a.service);
+        Ok(a.tail)
+    }
+}
+
+impl Arcs {
+    /// The rules that an arc keeps.
+    fn admits(&self, last: u32, a: Arc) -> Result<(), Refusal>
+        ensures { result ≡ answered (arc_refusal self.now.stops self.now.services last a) tt }
+    {
+        if a.tail >= self.stops || a.head >= self.stops || a.label >= LABELS {
+            return Err(Refusal::ArcField);
         }
+        if a.service >= self.services {
+            return Err(Refusal::NoSuchService);
+        }
+        if a.tail < last {
+            return Err(Refusal::TailFalls);
+        }
+        Ok(())
     }
 }
 
-// The second that a point's gap counts from.
-fn second_before(before: Option<Point>) -> u32
-    ensures { result ≡ second_before before }
-{
-    match before {
-        None => 0,
-        Some(last) => last.second,
-    }
+/// Lists of one kind, each the part of a table that a row names. `B` is what the items before one say of it.
+#[derive(Clone, Copy, Drop)]
+pub(crate) struct Parts<'a, T, B, K> {
+    pub(crate) table: &'a [T],
+    pub(crate) limits: Limits,
+    pub(crate) first: B,
+    pub(crate) kind: K,
 }
 
-// A point of a road, after another.
-pub(crate) fn emit_point(
-    before: Option<Point>,
-    p: Point,
-    out: &mut [u8],
-    at: usize,
-) -> Result<usize, Refusal>
-    requires { at ≤ 2 ^ 40 }
-    ensures says { Emits (point_refusal before p) (point_bytes before p) at out.old out.new result }
-    ensures small { Small 10 at result }
-{
-    if follows(before, p) {
-        Ok(emit_pair(p.second - second_before(before), p.travel, out, at))
-    } else {
-        Err(Refusal::ServiceField)
-    }
-}
+impl<T: Copy + Drop, B: Copy + Drop, K: Listed<T, B>> Listed<Span, ()> for Parts<'_, T, B, K> {
+    ghost refusal = { λ it _ row. part_refusal it.limits.low it.limits.high it.limits.refusal (K.refusal it.kind) K.next it.first it.table.now row };
 
-// An arc, after one whose tail is `last`.
-pub(crate) fn emit_arc(
-    stops: u32,
-    services: u32,
-    last: u32,
-    a: Arc,
-    out: &mut [u8],
-    at: usize,
-) -> Result<usize, Refusal>
-    requires { at ≤ 2 ^ 40 }
-    ensures says { Emits (arc_refusal stops services last a) (arc_bytes last a) at out.old out.new result }
-    ensures small { Small 20 at result }
-{
-    arc_stands(stops, services, last, a)?;
-    let middle = emit_pair(a.tail, a.head, out, at);
-    Ok(emit_pair(a.label, a.service, out, middle))
-}
+    ghost bytes = { λ it _ row. part_bytes (K.bytes it.kind) K.next it.first it.table.now row };
 
-// The rules that an arc keeps.
-fn arc_stands(stops: u32, services: u32, last: u32, a: Arc) -> Result<(), Refusal>
-    ensures { result ≡ passing (arc_refusal stops services last a) }
-{
-    if a.tail >= stops || a.head >= stops || a.label > LAST_LABEL {
-        return Err(Refusal::ArcField);
-    }
-    if a.service >= services {
-        return Err(Refusal::NoSuchService);
-    }
-    if a.tail < last {
-        return Err(Refusal::TailFalls);
-    }
-    Ok(())
-}
+    ghost next = { onward };
 
-// Whether a row lies within a table of so many.
-pub(crate) fn row_lies(len: usize, row: Span) -> bool
-    ensures { result ≡ (nat_le row.start len && nat_le row.len (len - row.start)) }
-{
-    row.start <= len && row.len <= len - row.start
-}
+    ghost most = { λ it. 5 + K.most it.kind * it.limits.high };
 
-// Bytes, at a place of an output if it has room there; the answer is the place after them.
-fn emit_bytes(bytes: &[u8], out: &mut [u8], at: usize) -> usize
-    requires place { at ≤ 2 ^ 41 }
-    requires few { length bytes.now ≤ 40 }
-    ensures says { result ≡ at + length bytes.now }
-    ensures output { at + length bytes.now ≤ length out.old → out.new ≡ paste out.old at bytes.now (length bytes.now) }
-{
-    let to = at + bytes.len();
-    if to <= out.len() {
-        out[at..to].copy_from_slice(bytes);
+    fn emit(&self, _before: (), row: Span, to: &mut Cursor<'_>) -> Result<(), Refusal> {
+        let list = part(self.table, row).ok_or(self.limits.refusal)?;
+        emit_list(&self.kind, self.limits, self.first, list, to)
     }
-    to
-}
-
-// A name with its length before it.
-fn emit_text(name: &[u8], out: &mut [u8], at: usize) -> Result<usize, Refusal>
-    requires { at ≤ 2 ^ 40 }
-    ensures says { Emits (outside 1 40 NameLength (length name.now)) (stop.write name.now) at out.old out.new result }
-    ensures small { Small 45 at result }
-{
-    let from = emit_in(name.len(), 1, LONGEST_NAME, Refusal::NameLength, out, at)?;
-    Ok(emit_bytes(name, out, from))
-}
-
-// The name that a row names.
-pub(crate) fn emit_name(
-    names: &[u8],
-    row: Span,
-    out: &mut [u8],
-    at: usize,
-) -> Result<usize, Refusal>
-    requires { at ≤ 2 ^ 40 }
-    ensures says { Emits (name_refusal names.now tt row) (name_bytes names.now tt row) at out.old out.new result }
-    ensures small { Small 45 at result }
-{
-    if !row_lies(names.len(), row) {
-        return Err(Refusal::NameLength);
-    }
-    let start = row.start;
-    let end = start + row.len;
-    emit_text(&names[start..end], out, at)
 }

@@ -1,84 +1,102 @@
 //! A whole network, written.
+ghost use Rattle.std.specs.Prelude.{◌≡◌, ◌≤◌};
 ghost use Rattle.writer.specs.Emission.{Emits};
-ghost use Rattle.writer.specs.Networks.{tables_of, network_refusal, network_bytes, Writes};
+ghost use Rattle.writer.specs.Lent.{lists};
+ghost use Rattle.writer.specs.Networks.{network_refusal, network_bytes, Writes};
 
-use crate::item::emit_number;
-use crate::list::{emit_arcs, emit_names, emit_roads, emit_timetables, emit_walks};
-use model::{Arc, Connection, Point, Refusal, Span};
+use crate::cursor::{Cursor, Limits};
+use crate::item::{Arcs, Connections, Names, Parts, Points, Walks};
+use crate::list::emit_list;
+use crate::tables::LentTables;
+use formats::NETWORK_FORM;
+use model::{MOST_ARCS, MOST_CONNECTIONS, MOST_POINTS, MOST_SERVICES, MOST_STOPS, Refusal};
 
-/// The form of the file.
-const FORM: u32 = 1;
+/// How many stops there may be.
+const STOPS: Limits = Limits {
+    low: 1,
+    high: MOST_STOPS as usize,
+    refusal: Refusal::StopCount,
+};
+/// How many services of one kind.
+const SERVICES: Limits = Limits {
+    low: 0,
+    high: MOST_SERVICES as usize,
+    refusal: Refusal::ServiceField,
+};
+/// How many connections of a timetable.
+const TIMETABLE: Limits = Limits {
+    low: 1,
+    high: MOST_CONNECTIONS as usize,
+    refusal: Refusal::ServiceField,
+};
+/// How many points of a road.
+const ROAD: Limits = Limits {
+    low: 1,
+    high: MOST_POINTS as usize,
+    refusal: Refusal::ServiceField,
+};
+/// How many arcs.
+const ARCS: Limits = Limits {
+    low: 0,
+    high: MOST_ARCS as usize,
+    refusal: Refusal::ArcCount,
+};
 
-// The network, at the front of an output if it has room there; the answer is the length of the file.
-fn emit_network(
-    stop_count: u32,
-    names: &[u8],
-    stops: &[Span],
-    walks: &[u32],
-    connections: &[Connection],
-    timetables: &[Span],
-    points: &[Point],
-    roads: &[Span],
-    arcs: &[Arc],
-    out: &mut [u8],
-) -> Result<usize, Refusal>
-    ensures { Emits (network_refusal stop_count (tables_of names.now stops.now walks.now connections.now timetables.now points.now roads.now arcs.now)) (network_bytes (tables_of names.now stops.now walks.now connections.now timetables.now points.now roads.now arcs.now)) 0 out.old out.new result }
+/// The network, if there is room for it; the place goes on behind it in any case.
+fn emit_network(stop_count: u32, tables: LentTables<'_>, to: &mut Cursor<'_>) -> Result<(), Refusal>
+    requires { to.old.at ≡ 0 }
+    ensures { Emits 25175070 (network_refusal stop_count (lists tables.entry)) (network_bytes (lists tables.entry)) tt to.old to.new result }
 {
-    if stops.len() != stop_count as usize {
+    if tables.stops.len() != stop_count as usize {
         return Err(Refusal::StopCount);
     }
-    let form_end = emit_number(FORM, out, 0);
-    let names_end = emit_names(names, stops, out, form_end)?;
-    let walks_end = emit_walks(walks, out, names_end)?;
-    let timetables_end = emit_timetables(connections, timetables, out, walks_end)?;
-    let roads_end = emit_roads(points, roads, out, timetables_end)?;
-    let services = (walks.len() + timetables.len() + roads.len()) as u32;
-    emit_arcs(stop_count, services, arcs, out, roads_end)
+    to.number(NETWORK_FORM);
+    let names = Names {
+        table: tables.names,
+    };
+    emit_list(&names, STOPS, (), tables.stops, to)?;
+    emit_list(&Walks, SERVICES, (), tables.walks, to)?;
+    let timetables = Parts {
+        table: tables.connections,
+        limits: TIMETABLE,
+        first: 0,
+        kind: Connections,
+    };
+    emit_list(&timetables, SERVICES, (), tables.timetables, to)?;
+    let roads = Parts {
+        table: tables.points,
+        limits: ROAD,
+        first: None,
+        kind: Points,
+    };
+    emit_list(&roads, SERVICES, (), tables.roads, to)?;
+    let arcs = Arcs {
+        stops: stop_count,
+        services: (tables.walks.len() + tables.timetables.len() + tables.roads.len()) as u32,
+    };
+    emit_list(&arcs, ARCS, 0, tables.arcs, to)
 }
 
 /// Writes a network of so many stops as a file at the front of `output`, and answers the file's length. What lies behind the file
-/// is kept, and a refusal leaves the output as it is. A row of `stops`, `timetables` or `roads` is a part of `names`, `connections`
-/// or `points`.
+/// is kept, and a refusal leaves the output as it is.
 pub fn write_network(
     stop_count: u32,
-    names: &[u8],
-    stops: &[Span],
-    walks: &[u32],
-    connections: &[Connection],
-    timetables: &[Span],
-    points: &[Point],
-    roads: &[Span],
-    arcs: &[Arc],
+    tables: LentTables<'_>,
     output: &mut [u8],
 ) -> Result<usize, Refusal>
-    ensures { Writes stop_count (tables_of names.now stops.now walks.now connections.now timetables.now points.now roads.now arcs.now) output.old output.new result }
+    ensures { Writes stop_count (lists tables.entry) output.old output.new result }
 {
     let mut nothing: [u8; 0] = [];
-    let len = emit_network(
-        stop_count,
-        names,
-        stops,
-        walks,
-        connections,
-        timetables,
-        points,
-        roads,
-        arcs,
-        &mut nothing,
-    )?;
+    let mut measure = Cursor {
+        out: &mut nothing,
+        at: 0,
+    };
+    emit_network(stop_count, tables, &mut measure)?;
+    let len = measure.at;
     if output.len() < len {
         return Err(Refusal::OutputShort);
     }
-    emit_network(
-        stop_count,
-        names,
-        stops,
-        walks,
-        connections,
-        timetables,
-        points,
-        roads,
-        arcs,
-        output,
-    )
+    let mut to = Cursor { out: output, at: 0 };
+    emit_network(stop_count, tables, &mut to)?;
+    Ok(len)
 }

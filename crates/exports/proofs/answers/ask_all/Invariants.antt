@@ -1,5 +1,5 @@
 use Rattle.std.proofs.Common.{◌≤◌, length}
 use Rattle.exports.proofs.answers.ask_all.Given as goal
 
-abbrev pub invariant-loop-i : goal.invariant-loop-i
-invariant-loop-i g l = l.at ≤ length l.answers
+abbrev pub invariant-loop-enquiry : goal.invariant-loop-enquiry
+invariant-loop-enquiry g l = l.len ≤ length l.answers

@@ -3,8 +3,10 @@ use Rattle.std.proofs.lemmas.Result.{err_from_is_err_and}
 use Rattle.formats.specs.NetworkFile.{network}
 use Rattle.formats.proofs.NetworkFile.{network_lawful}
 use Rattle.formats.proofs.BothWays.{writes_back}
+use Rattle.files.specs.Lent.{lists}
 use Rattle.files.proofs.Making.{rows_hold_names, files_make}
 use Rattle.files.proofs.Passes.{load_fault, load_short, load_done}
+use Rattle.files.proofs.References.{same_start}
 use Rattle.files.proofs.loading.load.Goals as goal
 
 pub returns-in_err-loaded : goal.returns-in_err-loaded
@@ -13,19 +15,21 @@ returns-in_err-loaded c =
     let p = err_from_is_err_and c.from_residual.result c.from_residual.ensures.1 in
     rw (p.1, p.2) (record {
       loads = load_fault (network.read a.file.now 0) c.in_err-loaded.field-0.0
-          (record { names = a.names.now; walks = a.walks.now; timetables = a.timetables.now; connections = a.connections.now; roads = a.roads.now; points = a.points.now; arcs = a.arcs.now })
+          (lists a.tables.now)
           (sym c.in_err-loaded.was ∙ c.tally.ensures);
+      same = same_start a.tables.now;
       back = writes_back network network_lawful;
       named = rows_hold_names;
       made = files_make;
     })
 
-pub returns-then-not-fits : goal.returns-then-not-fits
-returns-then-not-fits c =
+pub returns-then-not-have_room : goal.returns-then-not-have_room
+returns-then-not-have_room c =
     let a = c.args in record {
       loads = load_short (network.read a.file.now 0) c.in_ok-loaded.loaded
-          (record { names = a.names.now; walks = a.walks.now; timetables = a.timetables.now; connections = a.connections.now; roads = a.roads.now; points = a.points.now; arcs = a.arcs.now })
-          c.in_ok-loaded.ensures (sym c.fit-fits.ensures ∙ c.if-not-fits.true);
+          (lists a.tables.now)
+          c.in_ok-loaded.ensures (sym c.have_room.ensures ∙ c.if-not-have_room.true);
+      same = same_start a.tables.now;
       back = writes_back network network_lawful;
       named = rows_hold_names;
       made = files_make;
@@ -35,8 +39,9 @@ pub returns : goal.returns
 returns c =
     let a = c.args in record {
       loads = load_done a.file.now c.in_ok-loaded.loaded
-          (record { names = a.names.now; walks = a.walks.now; timetables = a.timetables.now; connections = a.connections.now; roads = a.roads.now; points = a.points.now; arcs = a.arcs.now })
-          _ c.in_ok-loaded.ensures (sym c.fit-fits.ensures ∙ c.if-not-fits.false) c.fill.ensures;
+          (lists a.tables.now)
+          _ c.in_ok-loaded.ensures (sym c.have_room.ensures ∙ c.if-not-have_room.false) c.fill.ensures.fills;
+      same = c.fill.ensures.same;
       back = writes_back network network_lawful;
       named = rows_hold_names;
       made = files_make;
