@@ -2,9 +2,9 @@
 #![tactic(auto)]
 
 ghost use Rattle.std.specs.Prelude.{◌≡◌, [], None};
-ghost use Rattle.clerk.specs.Marks.{Knows};
+ghost use Rattle.clerk.specs.Marks.{Kept, Knows};
 
-use model::HORIZON;
+use model::{HORIZON, Refusal};
 use notices::Notice;
 use scripts::Change;
 use std::alloc::{AllocError, Global};
@@ -21,7 +21,7 @@ pub struct Clerk {
     draft: Option<Vec<Notice>>,
 }
 
-/// Whether a book of so many services can have the notice.
+/// Whether a book of so many services can have the notice. The planner's own test is what this one is set against.
 fn is_sound(notice: Notice, services: usize) -> bool {
     (notice.service as usize) < services
         && notice.lateness <= HORIZON
@@ -31,26 +31,25 @@ fn is_sound(notice: Notice, services: usize) -> bool {
 
 /// The notices but those of a service.
 fn without(heap: Global, notices: &[Notice], service: u32) -> Result<Vec<Notice>, AllocError> {
-    let mut others = Vec::new(heap);
-    for notice in notices {
-        if notice.service != service {
-            others.push(*notice)?;
-        }
-    }
-    Ok(others)
+    notices
+        .iter()
+        .copied()
+        .filter(|notice| notice.service != service)
+        .collect(heap)
 }
 
 /// The notices, with this one in place of another of its service.
 fn replaced(heap: Global, notices: &[Notice], new: Notice) -> Result<Vec<Notice>, AllocError> {
-    let mut all = Vec::new(heap);
-    for notice in notices {
-        all.push(if notice.service == new.service {
-            new
-        } else {
-            *notice
-        })?;
-    }
-    Ok(all)
+    notices
+        .iter()
+        .map(|notice| {
+            if notice.service == new.service {
+                new
+            } else {
+                *notice
+            }
+        })
+        .collect(heap)
 }
 
 impl Clerk {
@@ -67,85 +66,89 @@ impl Clerk {
         }
     }
 
-    /// Opening: refused by 41 where a draft is open.
-    fn open(&mut self) -> Result<Option<u8>, AllocError>
-        ensures kept { (self.new.mark ≡ self.old.mark) × (self.new.services ≡ self.old.services) }
+    /// Opening: refused where a draft is open.
+    fn open(&mut self) -> Result<Result<(), Refusal>, AllocError>
+        ensures kept { Kept self.old self.new }
     {
         if self.draft.is_some() {
-            return Ok(Some(41));
+            return Ok(Err(Refusal::BulletinOpen));
         }
         self.draft = Some(self.standing.clone()?);
-        Ok(None)
+        Ok(Ok(()))
     }
 
-    /// Putting: refused by 43, and by 44 where 64 other services have notices.
+    /// Putting: refused where a field is out of range, and where 64 other services have notices.
     fn put(
         &mut self,
         heap: Global,
         draft: Vec<Notice>,
         notice: Notice,
-    ) -> Result<Option<u8>, AllocError>
-        ensures kept { (self.new.mark ≡ self.old.mark) × (self.new.services ≡ self.old.services) }
+    ) -> Result<Result<(), Refusal>, AllocError>
+        ensures kept { Kept self.old self.new }
     {
         if !is_sound(notice, self.services) {
             self.draft = Some(draft);
-            return Ok(Some(43));
+            return Ok(Err(Refusal::NoticeField));
         }
         let others = without(heap, draft.as_slice(), notice.service)?;
         if others.len() >= MOST_NOTICES {
             self.draft = Some(draft);
-            return Ok(Some(44));
+            return Ok(Err(Refusal::NoticesFull));
         }
         let mut all = replaced(heap, draft.as_slice(), notice)?;
         if others.len() == draft.len() {
             all.push(notice)?;
         }
         self.draft = Some(all);
-        Ok(None)
+        Ok(Ok(()))
     }
 
-    /// Lifting: refused by 45 where the service has no notice.
+    /// Lifting: refused where the service has no notice.
     fn lift(
         &mut self,
         heap: Global,
         draft: Vec<Notice>,
         service: u32,
-    ) -> Result<Option<u8>, AllocError>
-        ensures kept { (self.new.mark ≡ self.old.mark) × (self.new.services ≡ self.old.services) }
+    ) -> Result<Result<(), Refusal>, AllocError>
+        ensures kept { Kept self.old self.new }
     {
         let others = without(heap, draft.as_slice(), service)?;
         let lifted = others.len() < draft.len();
         self.draft = Some(others);
-        if lifted { Ok(None) } else { Ok(Some(45)) }
+        if lifted {
+            Ok(Ok(()))
+        } else {
+            Ok(Err(Refusal::NothingToLift))
+        }
     }
 
-    /// A call that is shown a mark, but for an opening: refused by 42 where the mark is another one or no draft is open. The refusal's
-    /// number comes back, or none.
+    /// A call that is shown a mark, but for an opening: refused as no such bulletin where the mark is another one or no draft is open. Its
+    /// answer comes back.
     pub fn call(
         &mut self,
         heap: Global,
         shown: u32,
         change: Change,
-    ) -> Result<Option<u8>, AllocError>
-        ensures kept { (self.new.mark ≡ self.old.mark) × (self.new.services ≡ self.old.services) }
+    ) -> Result<Result<(), Refusal>, AllocError>
+        ensures kept { Kept self.old self.new }
         ensures known { Knows change self.old.mark shown result }
     {
         if let Change::Open = change {
             return self.open();
         }
         if shown != self.mark {
-            return Ok(Some(42));
+            return Ok(Err(Refusal::NoSuchBulletin));
         }
         let Some(draft) = self.draft.take() else {
-            return Ok(Some(42));
+            return Ok(Err(Refusal::NoSuchBulletin));
         };
         match change {
-            Change::Open | Change::TearUp => Ok(None),
+            Change::Open | Change::TearUp => Ok(Ok(())),
             Change::Put(notice) => self.put(heap, draft, notice),
             Change::Lift(service) => self.lift(heap, draft, service),
             Change::Issue => {
                 self.standing = draft;
-                Ok(None)
+                Ok(Ok(()))
             }
         }
     }

@@ -1,9 +1,9 @@
 //! An ask judged.
 use crate::counts::{Counts, count_if};
-use crate::outcome::Outcome;
 use draws::blank_leg;
-use lister::{Expected, Journey, Sizes, Survey, World, read_answer, refused_by_tests, survey_from};
-use model::{Enquiry, Leg};
+use lister::{Journey, Sizes, Survey, World, read_answer, refused_by_tests, survey_from};
+use model::{Enquiry, Found, Leg, Refusal};
+use scripts::Reply;
 use std::alloc::{AllocError, Global};
 
 /// A call whose answer is not the one expected.
@@ -11,36 +11,42 @@ use std::alloc::{AllocError, Global};
 pub struct Difference {
     /// Which step of the script, or which ask after it, counted on.
     pub step: usize,
-    pub expected: Outcome,
+    pub expected: Reply,
     pub expected_legs: Vec<Leg>,
-    pub seen: Outcome,
+    pub seen: Reply,
     pub seen_legs: Vec<Leg>,
+}
+
+/// An ask that was made: where it stands among the calls, what came of it and what its slip has then.
+#[derive(Clone, Copy)]
+pub(crate) struct Made<'a> {
+    pub(crate) step: usize,
+    pub(crate) enquiry: Enquiry,
+    pub(crate) reply: Reply,
+    pub(crate) slip: &'a [Leg],
 }
 
 /// What an ask has to answer, and what is worth counting of it.
 #[derive(Drop)]
 struct Expectation {
-    outcome: Outcome,
+    answer: Result<Found, Refusal>,
     legs: Vec<Leg>,
-    ways: u32,
-    ends: u32,
+    ways: usize,
+    ends: usize,
     waits: bool,
     trips: usize,
 }
 
 /// Whether a trip with a wait suits.
 fn any_waits(world: World, survey: &Survey, target: u32) -> bool {
-    for trip in survey.trips.iter() {
-        if trip.waits && trip.at.stop == target && world.rule.ends(trip.at.state) {
-            return true;
-        }
-    }
-    false
+    survey.trips.iter().any(|trip| trip.waits
+        && trip.at.stop == target
+        && world.rule.ends(trip.at.state))
 }
 
-fn refused(heap: Global, number: u8) -> Expectation {
+fn refused(heap: Global, refusal: Refusal) -> Expectation {
     Expectation {
-        outcome: Outcome::AskRefused(number),
+        answer: Err(refusal),
         legs: Vec::new(heap),
         ways: 0,
         ends: 0,
@@ -50,8 +56,12 @@ fn refused(heap: Global, number: u8) -> Expectation {
 }
 
 fn answered(journey: Journey) -> Expectation {
+    let legs = u32::try_from(journey.legs.len()).unwrap_or(u32::MAX);
     Expectation {
-        outcome: Outcome::Journey(journey.arrival, journey.legs.len()),
+        answer: Ok(Found {
+            arrival: journey.arrival,
+            legs,
+        }),
         legs: journey.legs,
         ways: journey.ways,
         ends: journey.ends,
@@ -67,15 +77,15 @@ fn expect(
     enquiry: Enquiry,
     sizes: Sizes,
 ) -> Result<Option<Expectation>, AllocError> {
-    if let Some(number) = refused_by_tests(world, enquiry, sizes) {
-        return Ok(Some(refused(heap, number)));
+    if let Err(refusal) = refused_by_tests(world, enquiry, sizes) {
+        return Ok(Some(refused(heap, refusal)));
     }
     let Some(survey) = survey_from(heap, world, enquiry.start, enquiry.second)? else {
         return Ok(None);
     };
     let mut expectation = match read_answer(heap, world, &survey, enquiry.target, sizes.slip)? {
-        Expected::Refused(number) => refused(heap, number),
-        Expected::Journey(journey) => answered(journey),
+        Err(refusal) => refused(heap, refusal),
+        Ok(journey) => answered(journey),
     };
     expectation.waits = any_waits(world, &survey, enquiry.target);
     expectation.trips = survey.trips.len();
@@ -84,23 +94,14 @@ fn expect(
 
 /// Whether the rule has just one end.
 fn has_one_end(world: World) -> bool {
-    let mut ends = 0u32;
-    for state in 0..world.rule.states() {
-        if world.rule.ends(state) {
-            ends = ends.saturating_add(1);
-        }
-    }
-    ends == 1
+    let ends = (0..world.rule.states()).filter(|state| world.rule.ends(*state));
+    ends.count() == 1
 }
 
 /// Counts what is worth it.
 fn note(counts: &mut Counts, world: World, expectation: &Expectation) {
-    let is_reckoned = match expectation.outcome {
-        Outcome::Journey(_, _) => true,
-        Outcome::AskRefused(number) => number == 4,
-        _ => false,
-    };
-    counts.outcome(expectation.outcome);
+    let is_reckoned = matches!(expectation.answer, Ok(_) | Err(Refusal::NoJourney));
+    counts.reply(Reply::Asked(expectation.answer));
     counts.journey(expectation.legs.as_slice());
     counts.trips = counts.trips.saturating_add(expectation.trips as u64);
     count_if(&mut counts.ties, expectation.ways > 1);
@@ -109,29 +110,9 @@ fn note(counts: &mut Counts, world: World, expectation: &Expectation) {
     count_if(&mut counts.first_seconds, is_reckoned && has_one_end(world));
 }
 
-fn same_leg(one: Leg, other: Leg) -> bool {
-    one.arc == other.arc && one.entered == other.entered && one.arrived == other.arrived
-}
-
-/// Whether two lists of legs are the same.
-fn same_legs(one: &[Leg], other: &[Leg]) -> bool {
-    for (leg, another) in one.iter().zip(other) {
-        if !same_leg(*leg, *another) {
-            return false;
-        }
-    }
-    one.len() == other.len()
-}
-
 /// Whether a slip has these legs in its first rows, and is blank behind them.
 fn is_filled(slip: &[Leg], legs: &[Leg]) -> bool {
-    for (i, row) in slip.iter().enumerate() {
-        let due = legs.get(i).copied().unwrap_or(blank_leg());
-        if !same_leg(*row, due) {
-            return false;
-        }
-    }
-    legs.len() <= slip.len()
+    slip.starts_with(legs) && slip.iter().skip(legs.len()).all(|row| *row == blank_leg())
 }
 
 /// Whether the ask has another answer without the notices.
@@ -152,39 +133,38 @@ fn is_changed(
     let Some(other) = expect(heap, without, enquiry, sizes)? else {
         return Ok(false);
     };
-    Ok(
-        other.outcome != expectation.outcome
-            || !same_legs(other.legs.as_slice(), expectation.legs.as_slice()),
-    )
+    Ok(other.answer != expectation.answer || other.legs.as_slice() != expectation.legs.as_slice())
 }
 
 /// Holds the answer of an ask, and what its slip has then, against the list of all trips.
 pub(crate) fn judge_ask(
     heap: Global,
     counts: &mut Counts,
-    step: usize,
     world: World,
-    enquiry: Enquiry,
-    sizes: Sizes,
-    seen: Outcome,
-    slip: &[Leg],
+    lent: Sizes,
+    made: Made,
 ) -> Result<Option<Difference>, AllocError> {
+    let sizes = Sizes {
+        slip: made.slip.len(),
+        ..lent
+    };
     count_if(&mut counts.asks, true);
-    let Some(expectation) = expect(heap, world, enquiry, sizes)? else {
+    let Some(expectation) = expect(heap, world, made.enquiry, sizes)? else {
         count_if(&mut counts.passed_over, true);
         return Ok(None);
     };
     note(counts, world, &expectation);
-    let changed = is_changed(heap, world, enquiry, sizes, &expectation)?;
+    let changed = is_changed(heap, world, made.enquiry, sizes, &expectation)?;
     count_if(&mut counts.changed, changed);
-    if expectation.outcome == seen && is_filled(slip, expectation.legs.as_slice()) {
+    let expected = Reply::Asked(expectation.answer);
+    if expected == made.reply && is_filled(made.slip, expectation.legs.as_slice()) {
         return Ok(None);
     }
     Ok(Some(Difference {
-        step,
-        expected: expectation.outcome,
+        step: made.step,
+        expected,
         expected_legs: expectation.legs,
-        seen,
-        seen_legs: slip.to_vec(heap)?,
+        seen: made.reply,
+        seen_legs: made.slip.to_vec(heap)?,
     }))
 }

@@ -1,11 +1,11 @@
 //! What was seen.
 ghost use Rattle.std.specs.Prelude.{◌≡◌};
 
-use crate::outcome::Outcome;
 use model::Leg;
+use scripts::Reply;
 
 /// Counts over many trials.
-#[derive(Drop)]
+#[derive(Default, Drop)]
 pub struct Counts {
     pub calls: u32,
     pub no_calls: u32,
@@ -26,6 +26,7 @@ pub struct Counts {
     /// Asks by a rule with one end: first second and rank of that place are compared.
     pub first_seconds: u32,
     /// Refusals by number.
+    // a number for an index, since this is the number that is printed beside the count
     pub refused: [u32; 64],
     /// Trips that were listed.
     pub trips: u64,
@@ -36,43 +37,26 @@ fn count(number: &mut u32) {
 }
 
 impl Counts {
+    /// Nothing seen yet.
     pub fn new() -> Counts
         ensures { (result.asks ≡ 0) × (result.journeys ≡ 0) × (result.trips ≡ 0) }
     {
-        Counts {
-            calls: 0,
-            no_calls: 0,
-            asks: 0,
-            passed_over: 0,
-            journeys: 0,
-            legs: 0,
-            legs_of_no_seconds: 0,
-            ties: 0,
-            tied_ends: 0,
-            changed: 0,
-            waits: 0,
-            first_seconds: 0,
-            refused: [0; 64],
-            trips: 0,
-        }
-    }
-
-    fn refusal(&mut self, number: u8) {
-        if number < 64 {
-            count(&mut self.refused[number as usize]);
-        }
+        Counts::default()
     }
 
     /// Counts a call by what came of it.
-    pub(crate) fn outcome(&mut self, outcome: Outcome) {
-        match outcome {
-            Outcome::NoCall => count(&mut self.no_calls),
-            Outcome::Journey(_, _) => count(&mut self.journeys),
-            Outcome::Opened(_) => count(&mut self.calls),
-            Outcome::Shown(_, None) => count(&mut self.calls),
-            Outcome::AskRefused(number) => self.refusal(number),
-            Outcome::OpeningRefused(number) => self.refusal(number),
-            Outcome::Shown(_, Some(number)) => self.refusal(number),
+    pub(crate) fn reply(&mut self, reply: Reply) {
+        match reply {
+            Reply::Idle => count(&mut self.no_calls),
+            Reply::Asked(Ok(_)) => count(&mut self.journeys),
+            Reply::Opened(Ok(_)) | Reply::Shown(_, Ok(())) => count(&mut self.calls),
+            Reply::Asked(Err(refusal))
+            | Reply::Opened(Err(refusal))
+            | Reply::Shown(_, Err(refusal)) => {
+                if let Some(refused) = self.refused.get_mut(refusal.number() as usize) {
+                    count(refused);
+                }
+            }
         }
     }
 

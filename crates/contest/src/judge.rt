@@ -1,39 +1,46 @@
 //! A trial judged.
-use crate::asks::{Difference, judge_ask};
+use crate::asks::{Difference, Made, judge_ask};
 use crate::counts::Counts;
-use crate::outcome::{Outcome, told};
 use clerk::Clerk;
 use draws::Town;
 use lister::{Sizes, World};
-use model::{Enquiry, Leg};
 use notices::Notice;
 use plain::{PlainRule, Tables};
-use scripts::{Action, Change, Step};
+use scripts::{Action, Change, Reply, Step};
 use stage::{Ask, Calls};
 use std::alloc::{AllocError, Global};
 
 /// How long one waits at most after the first second of a town.
 const PATIENCE: u32 = 4;
 
-/// The book of one of the two planners.
-fn book_of(town: &Town, planner: usize) -> &Tables {
-    if planner == 0 { &town.one } else { &town.other }
-}
-
-/// The world of one of the two planners.
-fn world_of<'a>(
+/// What a trial is made over: the town and the rule, and the lengths of the tables that all asks are lent.
+#[derive(Clone, Copy)]
+struct Ground<'a> {
     town: &'a Town,
     rule: &'a PlainRule,
-    planner: usize,
-    notices: &'a [Notice],
-) -> World<'a> {
-    World {
-        stops: town.stops,
-        arcs: town.arcs.as_slice(),
-        book: book_of(town, planner),
-        notices,
-        rule,
-        last: town.from.saturating_add(PATIENCE),
+    lent: Sizes,
+}
+
+impl<'a> Ground<'a> {
+    /// The book of one of the two planners.
+    fn book(self, planner: usize) -> &'a Tables {
+        if planner == 0 {
+            &self.town.one
+        } else {
+            &self.town.other
+        }
+    }
+
+    /// The world of one of the two planners.
+    fn world(self, planner: usize, notices: &'a [Notice]) -> World<'a> {
+        World {
+            stops: self.town.stops,
+            arcs: self.town.arcs.as_slice(),
+            book: self.book(planner),
+            notices,
+            rule: self.rule,
+            last: self.town.from.saturating_add(PATIENCE),
+        }
     }
 }
 
@@ -43,24 +50,46 @@ fn change(
     clerk: &mut Clerk,
     held: Option<u32>,
     change: Change,
-) -> Result<(Outcome, Option<u32>), AllocError> {
+) -> Result<(Reply, Option<u32>), AllocError> {
     match (held, change) {
-        (None, Change::Open) => match clerk.call(heap, 0, change)? {
-            None => Ok((Outcome::Opened(clerk.mark), Some(clerk.mark))),
-            Some(number) => Ok((Outcome::OpeningRefused(number), None)),
-        },
-        (None, _) => Ok((Outcome::NoCall, None)),
-        (Some(mark), Change::Open) => Ok((Outcome::NoCall, Some(mark))),
+        (None, Change::Open) => {
+            let mark = clerk.mark;
+            let answer = clerk.call(heap, 0, change)?.map(|()| mark);
+            Ok((Reply::Opened(answer), answer.ok()))
+        }
+        (None, _) => Ok((Reply::Idle, None)),
+        (Some(mark), Change::Open) => Ok((Reply::Idle, Some(mark))),
         (Some(mark), Change::Put(_) | Change::Lift(_)) => {
-            let refusal = clerk.call(heap, mark, change)?;
-            Ok((Outcome::Shown(mark, refusal), Some(mark)))
+            let answer = clerk.call(heap, mark, change)?;
+            Ok((Reply::Shown(mark, answer), Some(mark)))
         }
         (Some(mark), Change::Issue | Change::TearUp) => {
-            let refusal = clerk.call(heap, mark, change)?;
-            let left = if refusal.is_some() { Some(mark) } else { None };
-            Ok((Outcome::Shown(mark, refusal), left))
+            let answer = clerk.call(heap, mark, change)?;
+            Ok((Reply::Shown(mark, answer), answer.err().map(|_| mark)))
         }
     }
+}
+
+// Heap and counts stand by themselves below: a function that takes the heap makes lists, and the counts outlive the trial that the rest is of.
+
+/// Holds what came of a call without legs against what had to come of it.
+fn compare(heap: Global, step: usize, expected: Reply, seen: Reply) -> Option<Difference> {
+    if seen == expected {
+        return None;
+    }
+    Some(Difference {
+        step,
+        expected,
+        expected_legs: Vec::new(heap),
+        seen,
+        seen_legs: Vec::new(heap),
+    })
+}
+
+/// Holds a reply against that no call was made.
+fn no_call(heap: Global, counts: &mut Counts, step: usize, seen: Reply) -> Option<Difference> {
+    counts.reply(Reply::Idle);
+    compare(heap, step, Reply::Idle, seen)
 }
 
 /// Holds what came of a change against what the clerk says.
@@ -71,137 +100,76 @@ fn judge_change(
     clerk: &mut Clerk,
     held: &mut Option<u32>,
     action: Change,
-    seen: Outcome,
+    seen: Reply,
 ) -> Result<Option<Difference>, AllocError> {
     let (expected, left) = change(heap, clerk, *held, action)?;
     *held = left;
-    counts.outcome(expected);
-    if expected == seen {
-        return Ok(None);
-    }
-    Ok(Some(Difference {
-        step,
-        expected,
-        expected_legs: Vec::new(heap),
-        seen,
-        seen_legs: Vec::new(heap),
-    }))
+    counts.reply(expected);
+    Ok(compare(heap, step, expected, seen))
 }
 
-/// Holds the answer of an ask against what the lister says.
-fn judge_asked<'a>(
+/// Holds an ask of a planner, where there is one, against what the lister says.
+fn judge_asked(
     heap: Global,
     counts: &mut Counts,
-    town: &'a Town,
-    rule: &'a PlainRule,
+    ground: Ground,
+    clerks: &[Clerk],
     planner: usize,
-    notices: &'a [Notice],
-    lent: Sizes,
-    number: usize,
-    enquiry: Enquiry,
-    seen: Outcome,
-    slip: &[Leg],
+    made: Made,
 ) -> Result<Option<Difference>, AllocError> {
-    let world = world_of(town, rule, planner, notices);
-    let sizes = Sizes {
-        slip: slip.len(),
-        ..lent
+    let Some(clerk) = clerks.get(planner) else {
+        return Ok(no_call(heap, counts, made.step, made.reply));
     };
-    judge_ask(heap, counts, number, world, enquiry, sizes, seen, slip)
+    let world = ground.world(planner, clerk.standing.as_slice());
+    judge_ask(heap, counts, world, ground.lent, made)
 }
 
 /// Holds what came of a step against what the clerks and the lister say.
 fn judge_step(
     heap: Global,
     counts: &mut Counts,
-    town: &Town,
-    rule: &PlainRule,
+    ground: Ground,
     clerks: &mut [Clerk],
     held: &mut [Option<u32>],
-    lent: Sizes,
     number: usize,
     step: &Step,
 ) -> Result<Option<Difference>, AllocError> {
-    let planner = step.planner;
-    let seen = told(step.reply);
-    if planner >= clerks.len() {
-        return Ok(no_call(heap, counts, number, seen));
-    }
     match step.action {
-        Action::Ask(enquiry) => judge_asked(
-            heap,
-            counts,
-            town,
-            rule,
-            planner,
-            clerks[planner].standing.as_slice(),
-            lent,
-            number,
-            enquiry,
-            seen,
-            &step.slip,
-        ),
+        Action::Ask(enquiry) => {
+            let made = Made {
+                step: number,
+                enquiry,
+                reply: step.reply,
+                slip: &step.slip,
+            };
+            judge_asked(heap, counts, ground, clerks, step.planner, made)
+        }
         Action::Change(slot, action) => {
-            if slot >= held.len() {
-                return Ok(no_call(heap, counts, number, seen));
-            }
-            judge_change(
-                heap,
-                counts,
-                number,
-                &mut clerks[planner],
-                &mut held[slot],
-                action,
-                seen,
-            )
+            let (Some(clerk), Some(held)) = (clerks.get_mut(step.planner), held.get_mut(slot))
+            else {
+                return Ok(no_call(heap, counts, number, step.reply));
+            };
+            judge_change(heap, counts, number, clerk, held, action, step.reply)
         }
     }
-}
-
-/// Holds a reply against that no call was made.
-fn no_call(heap: Global, counts: &mut Counts, step: usize, seen: Outcome) -> Option<Difference> {
-    counts.outcome(Outcome::NoCall);
-    if seen == Outcome::NoCall {
-        return None;
-    }
-    Some(Difference {
-        step,
-        expected: Outcome::NoCall,
-        expected_legs: Vec::new(heap),
-        seen,
-        seen_legs: Vec::new(heap),
-    })
 }
 
 /// Holds an ask after the script against what the lister says.
 fn judge_late_ask(
     heap: Global,
     counts: &mut Counts,
-    town: &Town,
-    rule: &PlainRule,
+    ground: Ground,
     clerks: &[Clerk],
-    lent: Sizes,
     number: usize,
     ask: &Ask,
 ) -> Result<Option<Difference>, AllocError> {
-    let planner = ask.planner;
-    let seen = told(ask.reply);
-    if planner >= clerks.len() {
-        return Ok(no_call(heap, counts, number, seen));
-    }
-    judge_asked(
-        heap,
-        counts,
-        town,
-        rule,
-        planner,
-        clerks[planner].standing.as_slice(),
-        lent,
-        number,
-        ask.enquiry,
-        seen,
-        ask.slip.as_slice(),
-    )
+    let made = Made {
+        step: number,
+        enquiry: ask.enquiry,
+        reply: ask.reply,
+        slip: ask.slip.as_slice(),
+    };
+    judge_asked(heap, counts, ground, clerks, ask.planner, made)
 }
 
 /// The ledgers of both planners before any call.
@@ -221,41 +189,23 @@ pub fn judge_calls(
     calls: &Calls,
 ) -> Result<Option<Difference>, AllocError> {
     let mut clerks = new_clerks(heap, town, calls)?;
-    let mut held = vec![in heap; None; 2]?;
+    let mut held = [None; 2];
     let lent = Sizes {
         rows: calls.rows,
         slots: calls.slots,
         slip: 0,
     };
+    let ground = Ground { town, rule, lent };
     for (number, step) in calls.script.iter().enumerate() {
         let clerks = clerks.as_mut_slice();
-        let found = judge_step(
-            heap,
-            counts,
-            town,
-            rule,
-            clerks,
-            held.as_mut_slice(),
-            lent,
-            number,
-            step,
-        )?;
+        let found = judge_step(heap, counts, ground, clerks, &mut held, number, step)?;
         if found.is_some() {
             return Ok(found);
         }
     }
     for (number, ask) in calls.asks.iter().enumerate() {
         let number = number.saturating_add(calls.script.len());
-        let found = judge_late_ask(
-            heap,
-            counts,
-            town,
-            rule,
-            clerks.as_slice(),
-            lent,
-            number,
-            ask,
-        )?;
+        let found = judge_late_ask(heap, counts, ground, clerks.as_slice(), number, ask)?;
         if found.is_some() {
             return Ok(found);
         }

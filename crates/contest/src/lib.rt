@@ -4,9 +4,7 @@
 mod asks;
 mod counts;
 mod judge;
-mod outcome;
 
 pub use asks::Difference;
 pub use counts::Counts;
 pub use judge::judge_calls;
-pub use outcome::Outcome;

@@ -14,6 +14,7 @@ const MARK: u32 = 7;
 
 /// As much room as is needed, or one less, or more.
 fn draw_room(dice: &mut Dice, needed: usize) -> usize {
+    // by the faces of a die: how many of them a case has is its chance
     match dice.below(16) {
         0 => needed.saturating_sub(1),
         1 => needed.saturating_add(3),

@@ -1,6 +1,7 @@
 //! Rules drawn.
 use chance::Dice;
-use plain::{Part, PlainRule};
+use model::LABELS;
+use plain::{Part, PlainRule, PlainTable};
 use std::alloc::{AllocError, Global};
 
 /// A table of so many states, most steps of which lead on, and two thirds of whose states are ends, a single one always.
@@ -8,7 +9,7 @@ fn draw_table(heap: Global, dice: &mut Dice, states: u32) -> Result<Part, AllocE
     let mut next = Vec::new(heap);
     let mut ends = Vec::new(heap);
     for _ in 0..states {
-        for _ in 0..6 {
+        for _ in 0..LABELS {
             next.push(if dice.once_in(8) {
                 None
             } else {
@@ -17,7 +18,7 @@ fn draw_table(heap: Global, dice: &mut Dice, states: u32) -> Result<Part, AllocE
         }
         ends.push(states == 1 || !dice.once_in(3))?;
     }
-    Ok(Part::Table(states, next, ends))
+    Ok(Part::Table(PlainTable { states, next, ends }))
 }
 
 /// A table of 1 to 3 states, often of one.
@@ -28,8 +29,9 @@ fn draw_small_table(heap: Global, dice: &mut Dice) -> Result<Part, AllocError> {
 
 /// A table rule, a boarding rule, or a pair of both in either order, which now and then has too many states.
 pub fn draw_rule(heap: Global, dice: &mut Dice) -> Result<PlainRule, AllocError> {
+    // by the faces of a die: how many of them a kind has is its chance
     match dice.below(12) {
-        0 | 1 | 2 | 3 | 4 => Ok(PlainRule {
+        0..=4 => Ok(PlainRule {
             first: draw_small_table(heap, dice)?,
             second: Part::Any,
         }),

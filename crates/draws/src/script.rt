@@ -5,7 +5,7 @@ use crate::town::Town;
 use chance::Dice;
 use model::{Enquiry, HORIZON, Leg};
 use notices::Notice;
-use scripts::{Action, Change, Reply, Step};
+use scripts::{Action, Change, Step};
 use std::alloc::{AllocError, Global};
 
 /// What the rows of a slip hold before an ask.
@@ -21,12 +21,7 @@ pub fn blank_leg() -> Leg
 
 /// A step that has not been made.
 fn step(planner: usize, action: Action) -> Step {
-    Step {
-        planner,
-        action,
-        reply: Reply::Idle,
-        slip: [blank_leg(); 64],
-    }
+    Step::new(planner, action, blank_leg())
 }
 
 /// A stop, most often another one.
@@ -66,6 +61,7 @@ pub(crate) fn draw_enquiry(dice: &mut Dice, town: &Town) -> Enquiry {
 /// A notice of 0 to 2 seconds' lateness or, seldom, of so many that nobody arrives; of a short shutting or none. Now and then a field is out of range.
 fn draw_notice(dice: &mut Dice, town: &Town) -> Notice {
     let service = dice.below(town.services.saturating_add(1));
+    // by the faces of a die: how many of them a case has is its chance
     let lateness = match dice.below(24) {
         0 => HORIZON + 1,
         1 => HORIZON,
@@ -86,11 +82,12 @@ fn draw_notice(dice: &mut Dice, town: &Town) -> Notice {
 }
 
 fn draw_change(dice: &mut Dice, town: &Town) -> Change {
+    // by the faces of a die: how many of them a change has is its chance
     match dice.below(12) {
-        0 | 1 | 2 => Change::Open,
-        3 | 4 | 5 | 6 => Change::Put(draw_notice(dice, town)),
+        0..=2 => Change::Open,
+        3..=6 => Change::Put(draw_notice(dice, town)),
         7 => Change::Lift(dice.below(town.services)),
-        8 | 9 | 10 => Change::Issue,
+        8..=10 => Change::Issue,
         _ => Change::TearUp,
     }
 }

@@ -3,7 +3,7 @@ ghost use Rattle.std.specs.Prelude.{◌≤◌, IfOk};
 
 use crate::tables::draw_tables;
 use chance::Dice;
-use model::{Arc, HORIZON};
+use model::{Arc, HORIZON, LABELS};
 use plain::Tables;
 use std::alloc::{AllocError, Global};
 
@@ -70,12 +70,7 @@ fn draw_arcs(
             let head = draw_head(dice, stops, tail);
             let service = dice.below(services);
             for _ in 0..dice.below(3).max(1) {
-                arcs.push(Arc {
-                    tail,
-                    head,
-                    label: dice.below(6),
-                    service,
-                })?;
+                arcs.push(Arc::new(tail, head, dice.below(LABELS), service))?;
             }
         }
     }
@@ -87,12 +82,7 @@ fn draw_arcs(
 fn draw_diamond(heap: Global, dice: &mut Dice) -> Result<Vec<Arc>, AllocError> {
     let mut arcs = Vec::new(heap);
     for (tail, head, service) in [(0, 1, 0), (0, 3, 1), (1, 2, 0), (2, 4, 2), (3, 4, 1)] {
-        arcs.push(Arc {
-            tail,
-            head,
-            label: dice.below(6),
-            service,
-        })?;
+        arcs.push(Arc::new(tail, head, dice.below(LABELS), service))?;
     }
     Ok(arcs)
 }

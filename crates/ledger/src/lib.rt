@@ -6,9 +6,7 @@ ghost use Rattle.ledger.specs.Sound.{AlwaysSound, IdleCalls};
 
 /// In every ledger the notices, standing and drafted, are at most sixty-four, one for a service, in range and of the book's services;
 /// and a refused call changes nothing in it, nor does an ask.
-pub fn ledgers_are_sound() -> u8
+pub fn ledgers_are_sound()
     ensures sound { AlwaysSound }
     ensures idle { IdleCalls }
-{
-    0
-}
+{}

@@ -1,10 +1,10 @@
 //! What an ask has to answer.
-ghost use Rattle.std.specs.Prelude.{◌≡◌, ◌<◌, ◌≤◌, ◌⊎◌, IfOk, Some};
-ghost use Rattle.lister.specs.declared.answer.Expected.TheVariants.{Refused, Journey as Told};
+ghost use Rattle.std.specs.Prelude.{◌≡◌, ◌<◌, ◌≤◌, ◌⊎◌, IfOk, IfErr, Err};
+ghost use Rattle.model.specs.declared.refusal.Refusal.TheVariants.{NoSuchStart, NoSuchTarget, SecondAboveHorizon, NoJourney, RowsShort};
 
 use crate::survey::{Reached, Survey};
 use crate::trips::World;
-use model::{Enquiry, HORIZON, Leg};
+use model::{Enquiry, HORIZON, Leg, MOST_STATES, Place, Refusal};
 use std::alloc::{AllocError, Global};
 
 /// The lengths of the tables that an ask is lent.
@@ -15,53 +15,44 @@ pub struct Sizes {
     pub slip: usize,
 }
 
-/// A refusal by its number, or a journey.
-#[derive(Drop)]
-pub enum Expected {
-    Refused(u8),
-    Journey(Journey),
-}
-
 /// A journey, and what is worth counting of it.
 #[derive(Drop)]
 pub struct Journey {
     pub arrival: u32,
     pub legs: Vec<Leg>,
     /// How many eager trips of fewest legs end at its place.
-    pub ways: u32,
+    pub ways: usize,
     /// How many places of the target in an end state have its first second.
-    pub ends: u32,
+    pub ends: usize,
 }
 
 /// Whether some arc's service is not in the book.
 fn any_unserved(world: World) -> bool {
-    for arc in world.arcs {
-        if arc.service as usize >= world.book.count() {
-            return true;
-        }
-    }
-    false
+    world
+        .arcs
+        .iter()
+        .any(|arc| arc.service as usize >= world.book.count())
 }
 
-/// The refusal by the tests up to 52, in their order.
-pub fn refused_by_tests(world: World, enquiry: Enquiry, sizes: Sizes) -> Option<u8>
-    ensures start { world.entry.stops ≤ enquiry.start → result ≡ Some 1 }
-    ensures target { enquiry.start < world.entry.stops → world.entry.stops ≤ enquiry.target → result ≡ Some 2 }
-    ensures second { enquiry.start < world.entry.stops → enquiry.target < world.entry.stops → 172800 < enquiry.second → result ≡ Some 3 }
+/// The refusal by the tests that come before the search, in their order.
+pub fn refused_by_tests(world: World, enquiry: Enquiry, sizes: Sizes) -> Result<(), Refusal>
+    ensures start { world.entry.stops ≤ enquiry.start → result ≡ Err NoSuchStart }
+    ensures target { enquiry.start < world.entry.stops → world.entry.stops ≤ enquiry.target → result ≡ Err NoSuchTarget }
+    ensures second { enquiry.start < world.entry.stops → enquiry.target < world.entry.stops → 172800 < enquiry.second → result ≡ Err SecondAboveHorizon }
 {
     let states = world.rule.states();
     if enquiry.start >= world.stops {
-        Some(1)
+        Err(Refusal::NoSuchStart)
     } else if enquiry.target >= world.stops {
-        Some(2)
+        Err(Refusal::NoSuchTarget)
     } else if enquiry.second > HORIZON {
-        Some(3)
-    } else if states > 64 {
-        Some(11)
+        Err(Refusal::SecondAboveHorizon)
+    } else if states > MOST_STATES {
+        Err(Refusal::TooManyStates)
     } else if any_unserved(world) {
-        Some(25)
+        Err(Refusal::NoSuchService)
     } else if sizes.rows < (world.stops as usize).saturating_mul(states as usize) {
-        Some(51)
+        Err(Refusal::LabelTableShort)
     } else if sizes.slots
         < world
             .arcs
@@ -69,47 +60,32 @@ pub fn refused_by_tests(world: World, enquiry: Enquiry, sizes: Sizes) -> Option<
             .saturating_mul(states as usize)
             .saturating_add(1)
     {
-        Some(52)
+        Err(Refusal::QueueShort)
     } else {
-        None
+        Ok(())
     }
 }
 
-/// Whether the first place comes before the second: by its first second, then by its rank, then by its state.
-fn comes_before(one: Reached, other: Reached) -> bool {
-    if one.first != other.first {
-        one.first < other.first
-    } else if one.rank != other.rank {
-        one.rank < other.rank
-    } else {
-        one.place.state < other.place.state
-    }
+/// Whether a place is the target in an end state.
+fn is_end(world: World, place: Place, target: u32) -> bool {
+    place.stop == target && world.rule.ends(place.state)
 }
 
-/// Of the target's places in an end state the one that comes before the others.
+/// Of the target's places in an end state the one that comes before the others: by its first second, then by its rank, then by its state.
 fn end_place(world: World, places: &[Reached], target: u32) -> Option<Reached> {
-    let mut best: Option<Reached> = None;
-    for reached in places {
-        if reached.place.stop == target && world.rule.ends(reached.place.state) {
-            best = match best {
-                Some(other) if !comes_before(*reached, other) => Some(other),
-                _ => Some(*reached),
-            };
-        }
-    }
-    best
+    places
+        .iter()
+        .copied()
+        .filter(|reached| is_end(world, reached.place, target))
+        .min_by_key(|reached| (reached.first, reached.rank, reached.place.state))
 }
 
 /// How many of the target's places in an end state have this first second.
-fn ends_at(world: World, places: &[Reached], target: u32, first: u32) -> u32 {
-    let mut ends = 0u32;
-    for reached in places {
-        let is_end = reached.place.stop == target && world.rule.ends(reached.place.state);
-        if is_end && reached.first == first {
-            ends = ends.saturating_add(1);
-        }
-    }
-    ends
+fn ends_at(world: World, places: &[Reached], target: u32, first: u32) -> usize {
+    places
+        .iter()
+        .filter(|reached| is_end(world, reached.place, target) && reached.first == first)
+        .count()
 }
 
 /// Whether an arc of this label and service is an eager leg from one place to another of the next rank.
@@ -122,8 +98,7 @@ fn is_eager_leg(world: World, from: Reached, label: u32, service: u32, to: Reach
 /// The last leg of the journey to a place, and the place that it leaves: an eager leg from a place one rank lower, of the lowest arc number, then from the
 /// lowest state. A place of rank 0 has none.
 fn last_leg(world: World, places: &[Reached], to: Reached) -> Option<(Leg, Reached)> {
-    let mut number = 0u32;
-    for arc in world.arcs {
+    for (number, arc) in (0..u32::MAX).zip(world.arcs) {
         for from in places {
             let joins = from.place.stop == arc.tail && to.place.stop == arc.head;
             if joins && is_eager_leg(world, *from, arc.label, arc.service, to) {
@@ -135,7 +110,6 @@ fn last_leg(world: World, places: &[Reached], to: Reached) -> Option<(Leg, Reach
                 return Some((leg, *from));
             }
         }
-        number = number.saturating_add(1);
     }
     None
 }
@@ -167,17 +141,17 @@ pub fn read_answer(
     survey: &Survey,
     target: u32,
     slip: usize,
-) -> Result<Expected, AllocError>
-    ensures { IfOk result (elim [ Refused number ↦ (number ≡ 4) ⊎ (number ≡ 53) | Told journey ↦ Unit {0} ]) }
+) -> Result<Result<Journey, Refusal>, AllocError>
+    ensures { IfOk result (λ answer. IfErr answer (λ refusal. (refusal ≡ NoJourney) ⊎ (refusal ≡ RowsShort))) }
 {
     let places = survey.places.as_slice();
     let Some(end) = end_place(world, places, target) else {
-        return Ok(Expected::Refused(4));
+        return Ok(Err(Refusal::NoJourney));
     };
     if slip < end.rank as usize {
-        return Ok(Expected::Refused(53));
+        return Ok(Err(Refusal::RowsShort));
     }
-    Ok(Expected::Journey(Journey {
+    Ok(Ok(Journey {
         arrival: end.first,
         legs: journey_to(heap, world, places, end)?,
         ways: end.ways,

@@ -5,6 +5,6 @@ mod answer;
 mod survey;
 mod trips;
 
-pub use answer::{Expected, Journey, Sizes, read_answer, refused_by_tests};
+pub use answer::{Journey, Sizes, read_answer, refused_by_tests};
 pub use survey::{Reached, Survey, survey_from};
 pub use trips::{Trip, World};

@@ -3,7 +3,7 @@ use crate::trips::{Trip, World, list_trips};
 use model::Place;
 use std::alloc::{AllocError, Global};
 
-/// A place that some trip ends at.
+/// A place that some eager trip ends at.
 #[derive(Clone, Copy, Drop)]
 pub struct Reached {
     pub place: Place,
@@ -12,7 +12,14 @@ pub struct Reached {
     /// The fewest legs of an eager trip to it.
     pub rank: u32,
     /// How many eager trips have so many legs.
-    pub ways: u32,
+    pub ways: usize,
+}
+
+/// A place that some trip ends at, and the least arrival of the trips that do.
+#[derive(Clone, Copy, Drop)]
+struct First {
+    place: Place,
+    second: u32,
 }
 
 /// The places that are reached, by stop and then by state, and the trips.
@@ -22,85 +29,79 @@ pub struct Survey {
     pub trips: Vec<Trip>,
 }
 
-fn same_place(one: Place, other: Place) -> bool {
-    one.stop == other.stop && one.state == other.state
+/// A trip, and whether it is eager: it never waits, and is at each of its places at its first second.
+#[derive(Clone, Copy, Drop)]
+struct Weighed {
+    trip: Trip,
+    eager: bool,
 }
 
 /// The least arrival of the trips that end at a place.
 fn first_second(trips: &[Trip], place: Place) -> Option<u32> {
-    let mut least: Option<u32> = None;
-    for trip in trips {
-        if same_place(trip.at, place) {
-            least = match least {
-                Some(arrival) => Some(arrival.min(trip.arrival)),
-                None => Some(trip.arrival),
-            };
-        }
-    }
-    least
+    trips
+        .iter()
+        .filter(|trip| trip.at == place)
+        .map(|trip| trip.arrival)
+        .min()
 }
 
-/// The places that trips end at with their first seconds; ranks are not reckoned yet.
-fn reached_places(heap: Global, world: World, trips: &[Trip]) -> Result<Vec<Reached>, AllocError> {
-    let mut places = Vec::new(heap);
+/// The places that trips end at, with their first seconds.
+fn list_firsts(heap: Global, world: World, trips: &[Trip]) -> Result<Vec<First>, AllocError> {
+    let mut firsts = Vec::new(heap);
     for stop in 0..world.stops {
         for state in 0..world.rule.states() {
             let place = Place { stop, state };
-            if let Some(first) = first_second(trips, place) {
-                places.push(Reached {
-                    place,
-                    first,
-                    rank: u32::MAX,
-                    ways: 0,
-                })?;
+            if let Some(second) = first_second(trips, place) {
+                firsts.push(First { place, second })?;
             }
         }
     }
-    Ok(places)
+    Ok(firsts)
 }
 
 /// Whether a trip is at its last place at that place's first second.
-fn is_first(places: &[Reached], trip: Trip) -> bool {
-    for reached in places {
-        if same_place(reached.place, trip.at) {
-            return reached.first == trip.arrival;
-        }
-    }
-    false
+fn is_first(firsts: &[First], trip: Trip) -> bool {
+    firsts.iter().any(|first| first.place == trip.at && first.second == trip.arrival)
 }
 
-/// Which trips are eager: they never wait, and are at each of their places at its first second. A trip's last leg comes after an eager trip.
-fn eager_trips(heap: Global, trips: &[Trip], places: &[Reached]) -> Result<Vec<bool>, AllocError> {
-    let mut eager: Vec<bool> = Vec::new(heap);
+/// The trips, with which of them are eager. A trip's last leg comes after an eager trip.
+fn weigh_trips(heap: Global, trips: &[Trip], firsts: &[First]) -> Result<Vec<Weighed>, AllocError> {
+    let mut weighed: Vec<Weighed> = Vec::new(heap);
     for trip in trips {
-        let so_far = match trip.before {
+        let so_far = match trip.last {
             None => true,
-            Some(index) => eager.get(index).copied().unwrap_or(false),
+            Some((index, _)) => weighed.get(index).is_some_and(|before| before.eager),
         };
-        eager.push(so_far && !trip.waits && is_first(places, *trip))?;
+        weighed.push(Weighed {
+            trip: *trip,
+            eager: so_far && !trip.waits && is_first(firsts, *trip),
+        })?;
     }
-    Ok(eager)
+    Ok(weighed)
 }
 
-/// The place with its rank, by the eager trips that end there, and how many have that many legs.
-fn ranked(reached: Reached, trips: &[Trip], eager: &[bool]) -> Reached {
-    let mut rank = u32::MAX;
-    let mut ways = 0u32;
-    for (trip, is_eager) in trips.iter().zip(eager) {
-        if *is_eager && same_place(trip.at, reached.place) {
-            if trip.legs < rank {
-                rank = trip.legs;
-                ways = 1;
-            } else if trip.legs == rank {
-                ways = ways.saturating_add(1);
-            }
-        }
-    }
-    Reached {
+/// The fewest legs of the eager trips that end at a place.
+fn fewest_legs(weighed: &[Weighed], place: Place) -> Option<u32> {
+    weighed
+        .iter()
+        .filter(|one| one.eager && one.trip.at == place)
+        .map(|one| one.trip.legs)
+        .min()
+}
+
+/// The place with its rank, by the eager trips that end there, and how many have that many legs; none where no eager trip ends there.
+fn ranked(first: First, weighed: &[Weighed]) -> Option<Reached> {
+    let rank = fewest_legs(weighed, first.place)?;
+    let ways = weighed
+        .iter()
+        .filter(|one| one.eager && one.trip.at == first.place && one.trip.legs == rank)
+        .count();
+    Some(Reached {
+        place: first.place,
+        first: first.second,
         rank,
         ways,
-        ..reached
-    }
+    })
 }
 
 /// Lists the trips from a stop at a second, and says what they say of the places; none where there are too many trips.
@@ -113,11 +114,11 @@ pub fn survey_from(
     let Some(trips) = list_trips(heap, world, start, second)? else {
         return Ok(None);
     };
-    let firsts = reached_places(heap, world, trips.as_slice())?;
-    let eager = eager_trips(heap, trips.as_slice(), firsts.as_slice())?;
-    let mut places = Vec::new(heap);
-    for reached in firsts.iter() {
-        places.push(ranked(*reached, trips.as_slice(), eager.as_slice()))?;
-    }
+    let firsts = list_firsts(heap, world, trips.as_slice())?;
+    let weighed = weigh_trips(heap, trips.as_slice(), firsts.as_slice())?;
+    let places = firsts
+        .iter()
+        .filter_map(|first| ranked(*first, weighed.as_slice()))
+        .collect(heap)?;
     Ok(Some(Survey { places, trips }))
 }

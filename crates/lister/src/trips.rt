@@ -8,6 +8,7 @@ use std::alloc::{AllocError, Global};
 const MOST_TRIPS: usize = 20_000;
 
 /// A network, a book under notices and a rule; and the last second until which one waits.
+// the heap is not among these: a function that begins a list is handed the heap beside them, and so shows that it allocates
 #[derive(Clone, Copy)]
 pub struct World<'a> {
     pub stops: u32,
@@ -18,13 +19,12 @@ pub struct World<'a> {
     pub last: u32,
 }
 
-/// A trip: another one of the list, and a leg more.
+/// A trip: the empty one, or another one of the list and a leg more.
 #[derive(Clone, Copy, Drop)]
 pub struct Trip {
-    /// The index of the other one; the empty trip has none.
-    pub before: Option<usize>,
-    /// The last leg; that of the empty trip says nothing.
-    pub leg: Leg,
+    /// The index of the other one, and the leg; the empty trip has neither.
+    // an index, since the other one lies in the same list, which grows while it is read
+    pub last: Option<(usize, Leg)>,
     pub legs: u32,
     pub at: Place,
     pub arrival: u32,
@@ -36,12 +36,7 @@ impl Trip {
     /// The trip without legs.
     fn empty(start: u32, second: u32) -> Trip {
         Trip {
-            before: None,
-            leg: Leg {
-                arc: 0,
-                entered: second,
-                arrived: second,
-            },
+            last: None,
             legs: 0,
             at: Place {
                 stop: start,
@@ -55,8 +50,7 @@ impl Trip {
     /// This trip, whose index is given, and a leg more.
     fn and(self, index: usize, leg: Leg, at: Place) -> Trip {
         Trip {
-            before: Some(index),
-            leg,
+            last: Some((index, leg)),
             legs: self.legs.saturating_add(1),
             at,
             arrival: leg.arrived,
@@ -66,6 +60,7 @@ impl Trip {
 }
 
 /// Lists the trips that go on from a listed one by an arc to a place: entered at once, or at any later second up to the last.
+// side by side, since they go together in this one call alone
 fn list_entries(
     world: World,
     trips: &mut Vec<Trip>,
@@ -94,8 +89,7 @@ fn list_longer(world: World, trips: &mut Vec<Trip>, index: usize) -> Result<(), 
     let Some(trip) = trips.get(index).copied() else {
         return Ok(());
     };
-    let mut number = 0u32;
-    for arc in world.arcs {
+    for (number, arc) in (0..u32::MAX).zip(world.arcs) {
         if arc.tail == trip.at.stop {
             if let Some(state) = world.rule.next(trip.at.state, arc.label) {
                 let at = Place {
@@ -105,7 +99,6 @@ fn list_longer(world: World, trips: &mut Vec<Trip>, index: usize) -> Result<(), 
                 list_entries(world, trips, index, trip, number, arc.service, at)?;
             }
         }
-        number = number.saturating_add(1);
     }
     Ok(())
 }
@@ -125,6 +118,7 @@ pub(crate) fn list_trips(
     let mut first = 0;
     for _ in 1..places {
         let end = trips.len();
+        // by index, since the list grows in the loop: the trips of one leg more go behind those of this round
         for index in first..end {
             list_longer(world, &mut trips, index)?;
             if trips.len() > MOST_TRIPS {

@@ -1,28 +1,42 @@
 -- Where a notice lies, and what is put and lifted there.
-use Rattle.std.proofs.Common.{◌≡◌, ℕ, suc, ◌+◌, ◌<◌, ◌≤◌, true, false, cond, ◌||◌, eqb, ltb, List, [], ◌∷◌, ◌++◌, length, get_or, drop, set, Some, None, refl, ap, ◌∙◌, arith}
-use Rattle.std.specs.List.{remove}
-use Rattle.std.proofs.lemmas.List.{at_drop_more}
-use Rattle.std.proofs.lemmas.Bool.{eqb-true}
+use Rattle.std.proofs.Common.{◌≡◌, ℕ, suc, ◌<◌, ◌≤◌, Bool, true, false, cond, ◌||◌, eqb, ltb, List, [], ◌∷◌, ◌++◌, length, get_or, set, Some, None, refl, sym, ap, ◌∙◌, arith}
+use Rattle.std.specs.List.{remove, position, position_or_len}
+use Rattle.std.proofs.lemmas.List.Recursion.{is_position_or_len}
+use Rattle.std.proofs.lemmas.Bool.{eqb-true, ltb-true, ltb-false, lt-ltb, le-ltb, cond-true, cond-false}
 use Rattle.std.proofs.lemmas.Bool.Decides.{nat_tests}
 use Rattle.notices.specs.declared.notice.Notice.{Notice}
-use Rattle.notices.specs.Notices.{place_of, others, has, put_in, lift_from, amended, notice_of}
+use Rattle.model.specs.declared.refusal.Refusal.TheVariants.{NoticesFull, NothingToLift}
+use Rattle.notices.specs.Notices.{others, has, put_in, lift_from, amended, put_refusal, lift_refusal}
 
-pub place_le : (s : ℕ) (ns : List Notice) → place_of s ns ≤ length ns
-place_le s [] = omega arith
-place_le s (n ∷ ns) =
-    let r = place_le s ns in
-    elim (eqb n.service s) as (λ b. cond b 0 (suc (place_of s ns)) ≤ suc (length ns)) [ true ↦ omega arith | false ↦ omega arith ]
+-- the index of the first notice of service s, or the length
+abbrev place_of : ℕ → List Notice → ℕ
+place_of s [] = 0
+place_of s (n ∷ ns) = cond (eqb n.service s) 0 (suc (place_of s ns))
 
--- one step of the walk: not here
-pub place_on : (s : ℕ) (ns : List Notice) (i : ℕ) (d : Notice) → i < length ns → eqb (get_or ns i d).service s ≡ false → place_of s (drop i ns) ≡ suc (place_of s (drop (i + 1) ns))
-place_on s ns i d h e = at_drop_more (place_of s) ns i d h ∙ ap (λ b. cond b 0 (suc (place_of s (drop (i + 1) ns)))) e
+cond_some : (b : Bool) (n i : ℕ) → cond b (Some n) None ≡ Some i → (b ≡ true) × (n ≡ i)
+cond_some true n i e = (refl, cc)
+cond_some false n i e = (cc, cc)
 
--- and here
-pub place_here : (s : ℕ) (ns : List Notice) (i : ℕ) (d : Notice) → i < length ns → eqb (get_or ns i d).service s ≡ true → place_of s (drop i ns) ≡ 0
-place_here s ns i d h e = at_drop_more (place_of s) ns i d h ∙ ap (λ b. cond b 0 (suc (place_of s (drop (i + 1) ns)))) e
+cond_none : (b : Bool) (n : ℕ) → cond b (Some n) None ≡ None → b ≡ false
+cond_none true n e = cc
+cond_none false n e = refl
+
+place_is : (s : ℕ) (ns : List Notice) → place_of s ns ≡ position_or_len (λ n. eqb n.service s) ns
+place_is s = is_position_or_len (place_of s) (λ n. eqb n.service s) refl (λ n ns. ap (λ k. cond (eqb n.service s) 0 k) (omega arith))
+
+placed : (s : ℕ) (ns : List Notice) (i : ℕ) → position (λ n. eqb n.service s) ns ≡ Some i → (i ≡ place_of s ns) × (i < length ns)
+placed s ns i e =
+    let p = cond_some (ltb (position_or_len (λ n. eqb n.service s) ns) (length ns)) (position_or_len (λ n. eqb n.service s) ns) i e in
+    let l = ltb-true _ _ p.0 in
+    (omega (arith, p.1, place_is s ns), omega (arith, p.1, l))
+
+absent : (s : ℕ) (ns : List Notice) → position (λ n. eqb n.service s) ns ≡ None → length ns ≤ place_of s ns
+absent s ns e =
+    let l = ltb-false _ _ (cond_none (ltb (position_or_len (λ n. eqb n.service s) ns) (length ns)) (position_or_len (λ n. eqb n.service s) ns) e) in
+    omega (arith, l, place_is s ns)
 
 -- the notice there is of the service
-pub place_service : (s : ℕ) (ns : List Notice) (d : Notice) → place_of s ns < length ns → (get_or ns (place_of s ns) d).service ≡ s
+place_service : (s : ℕ) (ns : List Notice) (d : Notice) → place_of s ns < length ns → (get_or ns (place_of s ns) d).service ≡ s
 place_service s [] d h = absurd (omega arith)
 place_service s (n ∷ ns) d h =
     elim (eqb n.service s) as (λ b. eqb n.service s ≡ b → cond b 0 (suc (place_of s ns)) < suc (length ns) → (get_or (n ∷ ns) (cond b 0 (suc (place_of s ns))) d).service ≡ s) [
@@ -30,18 +44,18 @@ place_service s (n ∷ ns) d h =
       | false ↦ λ _ l. place_service s ns d (omega arith)
     ] refl h
 
-pub has_place : (s : ℕ) (ns : List Notice) → has s ns ≡ ltb (place_of s ns) (length ns)
+has_place : (s : ℕ) (ns : List Notice) → has s ns ≡ ltb (place_of s ns) (length ns)
 has_place s [] = refl
 has_place s (n ∷ ns) =
     elim (eqb n.service s) as (λ b. (b || has s ns) ≡ ltb (cond b 0 (suc (place_of s ns))) (suc (length ns))) [ true ↦ grind (arith, nat_tests) | false ↦ let r = has_place s ns in grind (arith, nat_tests) ]
 
-pub others_le : (s : ℕ) (ns : List Notice) → others s ns ≤ length ns
+others_le : (s : ℕ) (ns : List Notice) → others s ns ≤ length ns
 others_le s [] = omega arith
 others_le s (n ∷ ns) =
     let r = others_le s ns in
     elim (eqb n.service s) as (λ b. cond b (others s ns) (suc (others s ns)) ≤ suc (length ns)) [ true ↦ omega arith | false ↦ omega arith ]
 
-pub others_fewer : (s : ℕ) (ns : List Notice) → place_of s ns < length ns → others s ns < length ns
+others_fewer : (s : ℕ) (ns : List Notice) → place_of s ns < length ns → others s ns < length ns
 others_fewer s [] h = h
 others_fewer s (n ∷ ns) h =
     let r = others_le s ns in
@@ -50,7 +64,7 @@ others_fewer s (n ∷ ns) h =
       | false ↦ λ l. omega (arith, others_fewer s ns (omega arith))
     ] h
 
-pub others_all : (s : ℕ) (ns : List Notice) → length ns ≤ place_of s ns → others s ns ≡ length ns
+others_all : (s : ℕ) (ns : List Notice) → length ns ≤ place_of s ns → others s ns ≡ length ns
 others_all s [] h = refl
 others_all s (n ∷ ns) h =
     elim (eqb n.service s) as (λ b. suc (length ns) ≤ cond b 0 (suc (place_of s ns)) → cond b (others s ns) (suc (others s ns)) ≡ suc (length ns)) [
@@ -58,7 +72,7 @@ others_all s (n ∷ ns) h =
       | false ↦ λ l. ap suc (others_all s ns (omega arith))
     ] h
 
-pub put_set : (n : Notice) (ns : List Notice) → place_of n.service ns < length ns → put_in n ns ≡ set ns (place_of n.service ns) n
+put_set : (n : Notice) (ns : List Notice) → place_of n.service ns < length ns → put_in n ns ≡ set ns (place_of n.service ns) n
 put_set n [] h = absurd (omega arith)
 put_set n (m ∷ ms) h =
     let p = place_of n.service ms in
@@ -67,7 +81,7 @@ put_set n (m ∷ ms) h =
       | false ↦ λ l. ap (λ (r : List Notice). m ∷ r) (put_set n ms (omega arith))
     ] h
 
-pub put_push : (n : Notice) (ns : List Notice) → length ns ≤ place_of n.service ns → put_in n ns ≡ ns ++ n ∷ []
+put_push : (n : Notice) (ns : List Notice) → length ns ≤ place_of n.service ns → put_in n ns ≡ ns ++ n ∷ []
 put_push n [] h = refl
 put_push n (m ∷ ms) h =
     let p = place_of n.service ms in
@@ -76,7 +90,7 @@ put_push n (m ∷ ms) h =
       | false ↦ λ l. ap (λ (r : List Notice). m ∷ r) (put_push n ms (omega arith))
     ] h
 
-pub lift_removed : (s : ℕ) (ns : List Notice) → place_of s ns < length ns → lift_from s ns ≡ remove ns (place_of s ns)
+lift_removed : (s : ℕ) (ns : List Notice) → place_of s ns < length ns → lift_from s ns ≡ remove ns (place_of s ns)
 lift_removed s [] h = absurd (omega arith)
 lift_removed s (m ∷ ms) h =
     let p = place_of s ms in
@@ -85,21 +99,33 @@ lift_removed s (m ∷ ms) h =
       | false ↦ λ l. ap (λ (r : List Notice). m ∷ r) (lift_removed s ms (omega arith))
     ] h
 
-pub amended_same : (n m : Notice) → n.service ≡ m.service → amended n m ≡ m
+amended_same : (n m : Notice) → n.service ≡ m.service → amended n m ≡ m
 amended_same n m e = ap (λ s. amended (record { service = s; lateness = 0; shut = 0; until = 0 }) m) e
 
-pub notice_here : (s : ℕ) (ns : List Notice) (d : Notice) → place_of s ns < length ns → Some (get_or ns (place_of s ns) d) ≡ notice_of s ns
-notice_here s [] d h = absurd (omega arith)
-notice_here s (n ∷ ns) d h =
-    elim (eqb n.service s) as (λ b. cond b 0 (suc (place_of s ns)) < suc (length ns) → Some (get_or (n ∷ ns) (cond b 0 (suc (place_of s ns))) d) ≡ cond b (Some n) (notice_of s ns)) [
-      | true ↦ λ _. refl
-      | false ↦ λ l. notice_here s ns d (omega arith)
-    ] h
+-- a notice put over the one of its service
+pub put_over : (n : Notice) (ns : List Notice) (i : ℕ) (d : Notice) → position (λ m. eqb m.service n.service) ns ≡ Some i → length ns ≤ 64
+    → (put_refusal n ns ≡ None) × (set ns i (amended (get_or ns i d) n) ≡ put_in n ns)
+put_over n ns i d e le =
+    let p = placed n.service ns i e in
+    let within : place_of n.service ns < length ns = omega (arith, p.0, p.1) in
+    let service : (get_or ns i d).service ≡ n.service = ap (λ k. (get_or ns k d).service) p.0 ∙ place_service n.service ns d within in (
+      cond-true _ _ _ (lt-ltb (others n.service ns) 64 (omega (arith, others_fewer n.service ns within))),
+      ap (set ns i) (amended_same (get_or ns i d) n service) ∙ ap (λ k. set ns k n) p.0 ∙ sym (put_set n ns within),
+    )
 
-pub notice_none : (s : ℕ) (ns : List Notice) → length ns ≤ place_of s ns → None ≡ notice_of s ns
-notice_none s [] h = refl
-notice_none s (n ∷ ns) h =
-    elim (eqb n.service s) as (λ b. suc (length ns) ≤ cond b 0 (suc (place_of s ns)) → None ≡ cond b (Some n) (notice_of s ns)) [
-      | true ↦ λ l. absurd (omega arith)
-      | false ↦ λ l. notice_none s ns (omega arith)
-    ] h
+-- at the end
+pub put_last : (n : Notice) (ns : List Notice) → position (λ m. eqb m.service n.service) ns ≡ None → length ns < 64 → (put_refusal n ns ≡ None) × (ns ++ n ∷ [] ≡ put_in n ns)
+put_last n ns e lt = (cond-true _ _ _ (lt-ltb (others n.service ns) 64 (omega (arith, others_le n.service ns))), sym (put_push n ns (absent n.service ns e)))
+
+-- nowhere
+pub put_nowhere : (n : Notice) (ns : List Notice) → position (λ m. eqb m.service n.service) ns ≡ None → length ns ≡ 64 → put_refusal n ns ≡ Some NoticesFull
+put_nowhere n ns e full = cond-false _ _ _ (le-ltb (others n.service ns) 64 (omega (arith, others_all n.service ns (absent n.service ns e))))
+
+pub lift_one : (s : ℕ) (ns : List Notice) (i : ℕ) → position (λ n. eqb n.service s) ns ≡ Some i → (lift_refusal s ns ≡ None) × (remove ns i ≡ lift_from s ns)
+lift_one s ns i e =
+    let p = placed s ns i e in
+    let within : place_of s ns < length ns = omega (arith, p.0, p.1) in
+    (cond-true _ _ _ (has_place s ns ∙ lt-ltb _ _ within), ap (remove ns) p.0 ∙ sym (lift_removed s ns within))
+
+pub lift_none : (s : ℕ) (ns : List Notice) → position (λ n. eqb n.service s) ns ≡ None → lift_refusal s ns ≡ Some NothingToLift
+lift_none s ns e = cond-false _ _ _ (has_place s ns ∙ le-ltb _ _ (absent s ns e))

@@ -1,5 +1,6 @@
 -- What notices say, what they make of a book's answers, and how one is put among others and lifted.
 use Rattle.std.specs.Prelude.{ℕ, suc, ◌+◌, Bool, false, cond, ◌&&◌, ◌||◌, List, [], ◌∷◌, Some, None, Ok, Err, Option, Result, ◌==◌, nat_le, nat_lt}
+use Rattle.std.specs.List.{find}
 use Rattle.model.specs.Clock.{horizon}
 use Rattle.model.specs.declared.refusal.Refusal.{Refusal}
 use Rattle.model.specs.declared.refusal.Refusal.TheVariants.{NoticesFull, NothingToLift}
@@ -20,8 +21,7 @@ delayed late (Some a) = cond (nat_le (a + late) horizon) (Some (a + late)) None
 
 -- the notice of service s
 abbrev pub notice_of : ℕ → List Notice → Option Notice
-notice_of s [] = None
-notice_of s (n ∷ ns) = cond (n.service == s) (Some n) (notice_of s ns)
+notice_of s ns = find (λ n. n.service == s) ns
 
 -- one service's answers under its notice, if it has one
 abbrev pub under : Option Notice → (ℕ → Option ℕ) → ℕ → Option ℕ
@@ -73,8 +73,3 @@ handing x (Some e) = Err e
 -- what n becomes where m is written over it
 abbrev pub amended : Notice → Notice → Notice
 amended n m = record { service = n.service; lateness = m.lateness; shut = m.shut; until = m.until }
-
--- the index of the first notice of service s, or the length
-abbrev pub place_of : ℕ → List Notice → ℕ
-place_of s [] = 0
-place_of s (n ∷ ns) = cond (n.service == s) 0 (suc (place_of s ns))

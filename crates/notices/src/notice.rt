@@ -5,7 +5,7 @@ ghost use Rattle.notices.specs.Notices.{in_range, amended, going, delayed};
 use model::HORIZON;
 
 /// What is said of a service: it arrives `lateness` seconds late, and takes nobody from the second `shut` until `until`.
-#[derive(Clone, Copy, Drop, PartialEq, Eq)]
+#[derive(Clone, Copy, Debug, Default, Drop, PartialEq, Eq)]
 pub struct Notice {
     pub service: u32,
     pub lateness: u32,
@@ -45,11 +45,8 @@ impl Notice {
     pub fn delay(&self, arrival: Option<u32>) -> Option<u32>
         ensures { result ≡ delayed self.now.lateness arrival }
     {
-        let second = arrival?;
-        if second <= HORIZON && self.lateness <= HORIZON - second {
-            Some(second + self.lateness)
-        } else {
-            None
-        }
+        let second = arrival?.checked_add(self.lateness)?;
+        // the books test their arrivals so too: notices stand beside them and share no code with them
+        (second <= HORIZON).then_some(second)
     }
 }

@@ -37,7 +37,7 @@ impl<B> NoticeBook<B> {
     pub fn notices(&self) -> NoticeTable
         ensures { result ≡ self.now.notices }
     {
-        self.notices
+        self.notices.copied()
     }
 
     /// Makes other notices the standing ones.

@@ -6,4 +6,4 @@ use Rattle.plain.specs.declared.rule.Part.TheVariants.{Any, Boardings, Table}
 abbrev pub states_of : Part → ℕ
 states_of Any = 1
 states_of (Boardings most) = min (most + 1) (2 ^ 32 - 1)
-states_of (Table states next ends) = states
+states_of (Table table) = table.states

@@ -2,8 +2,16 @@
 ghost use Rattle.std.specs.Prelude.{◌≡◌, ◌-◌, ◌*◌, ◌^◌, min};
 ghost use Rattle.plain.specs.Parts.{states_of};
 
-/// The most states of a pair.
-const MOST_STATES: u32 = 64;
+use model::{LABELS, MOST_STATES, Mode};
+
+/// So many states, a next state for each of them and each label, and whether each is an end.
+#[derive(Drop)]
+pub struct PlainTable {
+    pub states: u32,
+    // flat, state after state, as the maker of a table rule takes it
+    pub next: Vec<Option<u32>>,
+    pub ends: Vec<bool>,
+}
 
 /// One of the two rules of a pair.
 #[derive(Drop)]
@@ -12,8 +20,7 @@ pub enum Part {
     Any,
     /// At most so many boardings: the state is their number.
     Boardings(u32),
-    /// So many states, six next states for each, and whether each is an end.
-    Table(u32, Vec<Option<u32>>, Vec<bool>),
+    Table(PlainTable),
 }
 
 /// Both parts at once; a rule that is no pair has `Any` beside it.
@@ -30,7 +37,7 @@ impl Part {
         match self {
             Part::Any => 1,
             Part::Boardings(most) => most.saturating_add(1),
-            Part::Table(states, _, _) => *states,
+            Part::Table(table) => table.states,
         }
     }
 
@@ -38,24 +45,24 @@ impl Part {
         match self {
             Part::Any => Some(state),
             Part::Boardings(most) => boarded(*most, state, label),
-            Part::Table(_, next, _) => *next.get(state as usize * 6 + label as usize)?,
+            Part::Table(table) => *table
+                .next
+                .get(state as usize * LABELS as usize + label as usize)?,
         }
     }
 
     fn ends(&self, state: u32) -> bool {
         match self {
-            Part::Any => true,
-            Part::Boardings(_) => true,
-            Part::Table(_, _, ends) => ends.get(state as usize).copied().unwrap_or(false),
+            Part::Any | Part::Boardings(_) => true,
+            Part::Table(table) => table.ends.get(state as usize) == Some(&true),
         }
     }
 }
 
-/// Bus, ship and rail, 1 to 3, are boardings: one more each, up to the most; other labels stay.
+/// One more for a boarding, up to the most; other labels stay.
 fn boarded(most: u32, state: u32, label: u32) -> Option<u32> {
-    if label == 1 || label == 2 || label == 3 {
-        let next = state.checked_add(1)?;
-        if next > most { None } else { Some(next) }
+    if Mode::try_from(label).is_ok_and(|mode| mode.is_boarding()) {
+        state.checked_add(1).filter(|next| *next <= most)
     } else {
         Some(state)
     }

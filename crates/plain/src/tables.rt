@@ -5,6 +5,7 @@ use model::{Connection, HORIZON, Point, Span};
 use notices::Notice;
 
 /// The services of a book: its walks, then its timetables, then its roads.
+// flat rows, and spans into them, as the makers of a planner's book take them
 #[derive(Drop)]
 pub struct Tables {
     pub walks: Vec<u32>,
@@ -18,10 +19,9 @@ pub struct Tables {
 fn in_time(second: u64) -> Option<u32>
     ensures { MatchOption result (172800 < second) (λ s. (s ≡ second) × (s ≤ 172800)) }
 {
-    if second > HORIZON as u64 {
-        return None;
-    }
-    Some(second as u32)
+    u32::try_from(second)
+        .ok()
+        .filter(|second| *second <= HORIZON)
 }
 
 /// The arrival of a walk.
@@ -33,16 +33,11 @@ fn walk(time: u32, coming: u32) -> Option<u32>
 
 /// The least arrival of all connections that depart at or after the coming.
 fn ride(connections: &[Connection], coming: u32) -> Option<u32> {
-    let mut least: Option<u32> = None;
-    for connection in connections {
-        if connection.departure >= coming {
-            least = match least {
-                Some(arrival) => Some(arrival.min(connection.arrival)),
-                None => Some(connection.arrival),
-            };
-        }
-    }
-    least
+    connections
+        .iter()
+        .filter(|connection| connection.departure >= coming)
+        .map(|connection| connection.arrival)
+        .min()
 }
 
 /// The arrival between two points: `P + floor((Q - P) * (t - p) / (q - p))`.
@@ -60,9 +55,9 @@ fn between(from: Point, to: Point, coming: u32) -> Option<u32> {
 
 /// The arrival by the points of a road: before the first by its travel time, from the last on by that one's, else between neighbours.
 fn drive(points: &[Point], coming: u32) -> Option<u32> {
-    for neighbours in points.windows(2) {
-        if neighbours[0].second <= coming && coming < neighbours[1].second {
-            return between(neighbours[0], neighbours[1], coming);
+    for (from, to) in points.iter().zip(points.iter().skip(1)) {
+        if from.second <= coming && coming < to.second {
+            return between(*from, *to, coming);
         }
     }
     let first = points.first()?;
@@ -106,14 +101,12 @@ impl Tables {
         if coming > HORIZON {
             return None;
         }
-        for notice in notices {
-            if notice.service == service {
-                let shut = notice.shut <= coming && coming < notice.until;
-                let going = if shut { notice.until } else { coming };
-                return walk(notice.lateness, self.arrival(service as usize, going)?);
-            }
-        }
-        walk(0, self.arrival(service as usize, coming)?)
+        let Some(notice) = notices.iter().find(|notice| notice.service == service) else {
+            return walk(0, self.arrival(service as usize, coming)?);
+        };
+        let shut = notice.shut <= coming && coming < notice.until;
+        let going = if shut { notice.until } else { coming };
+        walk(notice.lateness, self.arrival(service as usize, going)?)
     }
 }
 

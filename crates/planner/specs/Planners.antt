@@ -1,24 +1,27 @@
 -- What a planner holds, and what a call makes of it.
-use Rattle.std.specs.Prelude.{◌≡◌, ℕ, false, cond, List, [], ◌∷◌, ◌++◌, Some, None, Ok, Err, Option, Result}
+use Rattle.std.specs.Prelude.{◌≡◌, ℕ, true, false, List, [], ◌∷◌, ◌++◌, Some, None, Ok, Err, Option, Result, MatchResult}
+use Rattle.std.specs.Option.{option_map}
 use Rattle.model.specs.declared.enquiry.Enquiry.{Enquiry}
 use Rattle.model.specs.declared.enquiry.Found.{Found}
 use Rattle.model.specs.declared.network.Arc.{Arc}
 use Rattle.model.specs.declared.network.Leg.{Leg}
 use Rattle.model.specs.declared.refusal.Refusal.{Refusal}
+use Rattle.model.specs.declared.refusal.Refusal.TheVariants.{NoSuchBulletin}
 use Rattle.model.specs.Rules.{Automaton}
 use Rattle.model.specs.Trips.{World, world}
 use Rattle.model.specs.Asking.{Asked}
 use Rattle.notices.specs.declared.notice.Notice.{Notice}
+use Rattle.notices.specs.declared.table.NoticeTable.{NoticeTable}
 use Rattle.notices.specs.Notices.{noticed}
 use Rattle.notices.specs.Tables.{listed}
-use Rattle.ledger.specs.Ledgers.{Call, Ask, Ledger, refusal, after, ledger}
+use Rattle.ledger.specs.Ledgers.{Call, Ask, Ledger, refusal, good, after, ledger}
 use Rattle.planner.specs.declared.planner.Returned.{Returned}
 use Rattle.planner.specs.declared.planner.Bulletin.{Bulletin}
 use Rattle.planner.specs.declared.planner.Planner.{Planner}
 
 -- the ledger that a planner's tables hold
 abbrev pub state : {B R : Type 0} → Planner B R → Ledger
-state p = record { standing = listed p.book.notices; draft = cond p.drafting (Some (listed p.draft)) None }
+state p = record { standing = listed p.book.notices; draft = option_map listed p.draft }
 
 -- the planner is as the ledger of the calls h since its start says; `size` gives a book's count of services
 abbrev pub AsLedger : {B R : Type 0} → (B → ℕ) → Planner B R → List Call → Type 0
@@ -35,7 +38,14 @@ returning b (Some e) = Err (record { refusal = e; bulletin = b })
 
 -- the planner without a draft
 abbrev pub closed : {B R : Type 0} → Planner B R → Planner B R
-closed p = record { book = p.book; rule = p.rule; mark = p.mark; draft = p.draft; drafting = false }
+closed p = record { book = p.book; rule = p.rule; mark = p.mark; draft = None }
+
+-- a bulletin taken in, where it is good, and the draft handed out; or the bulletin handed back, and the planner as it was
+abbrev pub Closed : {B R : Type 0} → Bulletin → Planner B R → Planner B R → Result NoticeTable Returned → Type 0
+Closed b p q r =
+    MatchResult r
+    (λ draft. (good p.mark b.mark (state p) ≡ true) × (p.draft ≡ Some draft) × (q ≡ closed p))
+    (λ e. (good p.mark b.mark (state p) ≡ false) × (e ≡ record { refusal = NoSuchBulletin; bulletin = b }) × (q ≡ p))
 
 -- what a call c makes of a planner p: book, rule and mark stay; its notices and draft take the ledger's step; so that, whatever the calls
 -- since its start, as it was by their ledger it is then by the ledger of these and c

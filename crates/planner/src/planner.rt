@@ -17,8 +17,7 @@ pub struct Planner<B, R> {
     book: NoticeBook<B>,
     rule: R,
     mark: u32,
-    draft: NoticeTable,
-    drafting: bool,
+    draft: Option<NoticeTable>,
 }
 
 /// A bulletin that was not taken in, and why.

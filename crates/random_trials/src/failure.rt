@@ -1,23 +1,25 @@
 //! Why a run fails.
 ghost use Rattle.std.specs.Prelude.{◌≡◌};
-ghost use Rattle.random_trials.specs.declared.failure.Failure.TheVariants.{Play};
-ghost use Rattle.random_trials.specs.Endings.{NoneOut};
+ghost use Rattle.random_trials.specs.declared.failure.Failure.TheVariants.{Io, Laying};
 
-use stage::Hitch;
+use books::BookFault;
+use network::NetworkFault;
+use rules::RuleFault;
 use std::alloc::AllocError;
 use std::io;
 
-/// Want of memory or of output, a table or a rule that was refused, a play that did not end well, or an answer that is not the one expected.
-/// It may hold bulletins, which can be neither dropped nor forgotten.
+/// Want of memory or of output, a table or a rule that was refused, want of memory in a play, or an answer that is not the one expected.
+// the fixed trial has an enum of its own: there no difference is looked for, and each enum is one program's
+#[derive(Debug, Drop)]
 pub enum Failure {
     Io(io::Error),
     Laying,
-    Play(Hitch),
+    Memory,
     Difference,
 }
 
 impl From<io::Error> for Failure {
-    ghost from_gives = { λ _ failure. NoneOut failure };
+    ghost from_gives = { λ error failure. failure ≡ Io error };
 
     fn from(error: io::Error) -> Failure {
         Failure::Io(error)
@@ -25,41 +27,31 @@ impl From<io::Error> for Failure {
 }
 
 impl From<AllocError> for Failure {
-    ghost from_gives = { λ _ failure. NoneOut failure };
-
     fn from(error: AllocError) -> Failure {
         Failure::Io(error.into())
     }
 }
 
-impl From<Hitch> for Failure {
-    ghost from_gives = { λ hitch failure. failure ≡ Play hitch };
+impl From<NetworkFault> for Failure {
+    ghost from_gives = { λ _ failure. failure ≡ Laying };
 
-    fn from(hitch: Hitch) -> Failure {
-        Failure::Play(hitch)
+    fn from(_fault: NetworkFault) -> Failure {
+        Failure::Laying
     }
 }
 
-/// What a failed run ends with: a failure that holds no bulletin.
-#[derive(Debug, Drop)]
-pub enum Ending {
-    Io(io::Error),
-    Laying,
-    Memory,
-    Difference,
+impl From<BookFault> for Failure {
+    ghost from_gives = { λ _ failure. failure ≡ Laying };
+
+    fn from(_fault: BookFault) -> Failure {
+        Failure::Laying
+    }
 }
 
-impl Failure {
-    /// The failure without bulletins, of which it holds none.
-    pub(crate) fn ending(self) -> Ending
-        requires { NoneOut self }
-    {
-        match self {
-            Failure::Io(error) => Ending::Io(error),
-            Failure::Laying => Ending::Laying,
-            Failure::Play(Hitch::Memory) => Ending::Memory,
-            Failure::Play(Hitch::Unspent(_first, _second)) => unreachable(),
-            Failure::Difference => Ending::Difference,
-        }
+impl From<RuleFault> for Failure {
+    ghost from_gives = { λ _ failure. failure ≡ Laying };
+
+    fn from(_fault: RuleFault) -> Failure {
+        Failure::Laying
     }
 }

@@ -1,14 +1,11 @@
 //! Sets planners against a list of all trips, on small networks that are drawn from fixed seeds, and prints what it saw.
 #![tactic(auto)]
 
-ghost use Rattle.std.specs.Prelude.{IfErr};
-ghost use Rattle.random_trials.specs.Endings.{NoneOut};
-
 mod failure;
 mod printing;
 mod trial;
 
-use crate::failure::{Ending, Failure};
+use crate::failure::Failure;
 use crate::printing::print_counts;
 use crate::trial::make_trial;
 use contest::Counts;
@@ -17,9 +14,7 @@ use contest::Counts;
 const TRIALS: u64 = 3_000;
 
 /// Makes the trials, up to the first answer that is not the one expected.
-fn make_trials(rt: &HostRuntime) -> Result<(), Failure>
-    ensures { IfErr result NoneOut }
-{
+fn make_trials(rt: &HostRuntime) -> Result<(), Failure> {
     let mut counts = Counts::new();
     for seed in 0..TRIALS {
         make_trial(rt, seed, &mut counts)?;
@@ -29,9 +24,6 @@ fn make_trials(rt: &HostRuntime) -> Result<(), Failure>
 }
 
 /// Stops with an error at the first answer that is not the one expected, once that has been printed.
-fn main(rt: HostRuntime) -> Result<(), Ending> {
-    match make_trials(&rt) {
-        Ok(()) => Ok(()),
-        Err(failure) => Err(failure.ending()),
-    }
+fn main(rt: HostRuntime) -> Result<(), Failure> {
+    make_trials(&rt)
 }

@@ -1,6 +1,7 @@
 //! What the run prints.
 use contest::{Counts, Difference};
-use model::Leg;
+use model::{Found, Leg};
+use scripts::Reply;
 use std::io;
 
 fn print_refusals(rt: &HostRuntime, counts: &Counts) -> io::Result<()> {
@@ -59,14 +60,36 @@ fn print_legs(rt: &HostRuntime, legs: &[Leg]) -> io::Result<()> {
     Ok(())
 }
 
+/// Prints what came of a call or has to come of it, refusals by number.
+fn print_reply(rt: &HostRuntime, word: &str, reply: Reply) -> io::Result<()> {
+    match reply {
+        Reply::Idle => println!(rt; "{word} NoCall"),
+        Reply::Asked(Ok(Found { arrival, legs })) => {
+            println!(rt; "{word} Journey({arrival}, {legs})")
+        }
+        Reply::Asked(Err(refusal)) => {
+            let number = refusal.number();
+            println!(rt; "{word} AskRefused({number})")
+        }
+        Reply::Opened(Ok(mark)) => println!(rt; "{word} Opened({mark})"),
+        Reply::Opened(Err(refusal)) => {
+            let number = refusal.number();
+            println!(rt; "{word} OpeningRefused({number})")
+        }
+        Reply::Shown(mark, Ok(())) => println!(rt; "{word} Shown({mark}, None)"),
+        Reply::Shown(mark, Err(refusal)) => {
+            let number = refusal.number();
+            println!(rt; "{word} Shown({mark}, Some({number}))")
+        }
+    }
+}
+
 /// Prints an answer that is not the one expected.
 pub fn print_difference(rt: &HostRuntime, seed: u64, difference: &Difference) -> io::Result<()> {
     let step = difference.step;
-    let expected = difference.expected;
-    let seen = difference.seen;
     println!(rt; "difference: seed {seed} step {step}")?;
-    println!(rt; "expected {expected:?}")?;
+    print_reply(rt, "expected", difference.expected)?;
     print_legs(rt, difference.expected_legs.as_slice())?;
-    println!(rt; "seen {seen:?}")?;
+    print_reply(rt, "seen", difference.seen)?;
     print_legs(rt, difference.seen_legs.as_slice())
 }

@@ -1,7 +1,4 @@
 //! One trial.
-ghost use Rattle.std.specs.Prelude.{IfErr};
-ghost use Rattle.random_trials.specs.Endings.{NoneOut};
-
 use crate::failure::Failure;
 use crate::printing::print_difference;
 use book::{Bank, Book};
@@ -10,63 +7,40 @@ use chance::Dice;
 use contest::{Counts, judge_calls};
 use draws::{Town, draw_calls, draw_rule, draw_town};
 use network::Network;
-use plain::{Part, PlainRule, Tables};
-use rules::{BoardingRule, Pair, Rule, TableRule};
+use plain::{Part, PlainRule, PlainTable, Tables};
+use rules::{BoardingRule, Pair, Rule, RuleFault, TableRule};
 use stage::{Calls, play_two};
 use std::alloc::Global;
 
 /// The services of drawn tables: walks, then timetables, then roads.
+// the order of a file's services too; but the maker in `contents` takes a file's tables and the counts of its rows, and a draw has neither
 type TownBook<'a> = Bank<Bank<Walks<'a>, Timetables<'a>>, Roads<'a>>;
 
-/// Which of the rules that there are a drawn one is.
-enum Kind {
-    Table,
-    Boardings,
-    TableAndBoardings,
-    BoardingsAndTable,
-    Other,
+fn table_rule(table: &PlainTable) -> Result<TableRule, RuleFault> {
+    TableRule::new(table.states, table.next.as_slice(), table.ends.as_slice())
 }
 
-fn kind_of(rule: &PlainRule) -> Kind {
-    match (&rule.first, &rule.second) {
-        (Part::Table(_, _, _), Part::Any) => Kind::Table,
-        (Part::Boardings(_), Part::Any) => Kind::Boardings,
-        (Part::Table(_, _, _), Part::Boardings(_)) => Kind::TableAndBoardings,
-        (Part::Boardings(_), Part::Table(_, _, _)) => Kind::BoardingsAndTable,
-        _ => Kind::Other,
-    }
+/// The book over drawn tables.
+fn book_over<'a>(tables: &'a Tables) -> Result<TownBook<'a>, BookFault> {
+    Ok(Bank {
+        first: Bank {
+            first: Walks::new(tables.walks.as_slice())?,
+            second: Timetables::new(tables.connections.as_slice(), tables.timetables.as_slice())?,
+        },
+        second: Roads::new(tables.points.as_slice(), tables.roads.as_slice())?,
+    })
 }
 
-fn table_rule(part: &Part) -> Result<TableRule, Failure>
-    ensures { IfErr result NoneOut }
-{
-    let Part::Table(states, next, ends) = part else {
-        return Err(Failure::Laying);
-    };
-    match TableRule::new(*states, next.as_slice(), ends.as_slice()) {
-        Ok(rule) => Ok(rule),
-        Err(_) => Err(Failure::Laying),
-    }
-}
-
-fn boarding_rule(part: &Part) -> Result<BoardingRule, Failure>
-    ensures { IfErr result NoneOut }
-{
-    let Part::Boardings(most) = part else {
-        return Err(Failure::Laying);
-    };
-    match BoardingRule::new(*most) {
-        Ok(rule) => Ok(rule),
-        Err(_) => Err(Failure::Laying),
-    }
-}
-
-/// Becomes the book over drawn tables.
-fn lay_book<'a>(book: &mut TownBook<'a>, tables: &'a Tables) -> Result<(), BookFault> {
-    book.first.first.lay(tables.walks.as_slice())?;
-    book.first.second.lay(tables.connections.as_slice(), tables.timetables.as_slice())?;
-    book.second
-        .lay(tables.points.as_slice(), tables.roads.as_slice())
+/// Plays the calls over two planners of these books.
+fn play<A: Book + Drop, B: Book + Drop, R: Rule + Copy>(
+    heap: Global,
+    network: Network,
+    one: A,
+    other: B,
+    rule: R,
+    calls: &mut Calls,
+) -> Result<(), Failure> {
+    play_two(heap, network, one, other, rule, calls).map_err(|_error| Failure::Memory)
 }
 
 /// Plays the calls over two planners of these books, by the drawn rule.
@@ -77,34 +51,23 @@ fn play_by_rule<A: Book + Drop, B: Book + Drop>(
     other: B,
     rule: &PlainRule,
     calls: &mut Calls,
-) -> Result<(), Failure>
-    ensures { IfErr result NoneOut }
-{
-    let first = &rule.first;
-    let second = &rule.second;
-    match kind_of(rule) {
-        Kind::Table => play_two(heap, network, one, other, table_rule(first)?, calls)?,
-        Kind::Boardings => play_two(heap, network, one, other, boarding_rule(first)?, calls)?,
-        Kind::TableAndBoardings => {
-            let rule = Pair::new(table_rule(first)?, boarding_rule(second)?);
-            play_two(heap, network, one, other, rule, calls)?
+) -> Result<(), Failure> {
+    match (&rule.first, &rule.second) {
+        (Part::Table(table), Part::Any) => {
+            play(heap, network, one, other, table_rule(table)?, calls)
         }
-        Kind::BoardingsAndTable => {
-            let rule = Pair::new(boarding_rule(first)?, table_rule(second)?);
-            play_two(heap, network, one, other, rule, calls)?
+        (Part::Boardings(most), Part::Any) => {
+            play(heap, network, one, other, BoardingRule::new(*most)?, calls)
         }
-        Kind::Other => return Err(Failure::Laying),
-    }
-    Ok(())
-}
-
-fn empty_book<'a>() -> TownBook<'a> {
-    Bank {
-        first: Bank {
-            first: Walks::empty(),
-            second: Timetables::empty(),
-        },
-        second: Roads::empty(),
+        (Part::Table(table), Part::Boardings(most)) => {
+            let rule = Pair::new(table_rule(table)?, BoardingRule::new(*most)?);
+            play(heap, network, one, other, rule, calls)
+        }
+        (Part::Boardings(most), Part::Table(table)) => {
+            let rule = Pair::new(BoardingRule::new(*most)?, table_rule(table)?);
+            play(heap, network, one, other, rule, calls)
+        }
+        _ => Err(Failure::Laying),
     }
 }
 
@@ -114,21 +77,10 @@ fn play_in_town(
     town: &Town,
     rule: &PlainRule,
     calls: &mut Calls,
-) -> Result<(), Failure>
-    ensures { IfErr result NoneOut }
-{
-    let mut network = Network::empty();
-    if network.lay(town.stops, town.arcs.as_slice()).is_err() {
-        return Err(Failure::Laying);
-    }
-    let mut one = empty_book();
-    if lay_book(&mut one, &town.one).is_err() {
-        return Err(Failure::Laying);
-    }
-    let mut other = empty_book();
-    if lay_book(&mut other, &town.other).is_err() {
-        return Err(Failure::Laying);
-    }
+) -> Result<(), Failure> {
+    let network = Network::new(town.stops, town.arcs.as_slice())?;
+    let one = book_over(&town.one)?;
+    let other = book_over(&town.other)?;
     play_by_rule(heap, network, one, &other, rule, calls)
 }
 
@@ -140,9 +92,7 @@ fn report(
     town: &Town,
     rule: &PlainRule,
     calls: &Calls,
-) -> Result<(), Failure>
-    ensures { IfErr result NoneOut }
-{
+) -> Result<(), Failure> {
     let heap = rt.alloc();
     match judge_calls(heap, counts, town, rule, calls)? {
         None => Ok(()),
@@ -154,9 +104,7 @@ fn report(
 }
 
 /// Draws a trial from a seed, plays it and judges it.
-pub fn make_trial(rt: &HostRuntime, seed: u64, counts: &mut Counts) -> Result<(), Failure>
-    ensures { IfErr result NoneOut }
-{
+pub fn make_trial(rt: &HostRuntime, seed: u64, counts: &mut Counts) -> Result<(), Failure> {
     let heap = rt.alloc();
     let mut dice = Dice::new(seed);
     let town = draw_town(heap, &mut dice)?;

@@ -1,7 +1,5 @@
 -- At a script's end every bulletin that is out is taken in.
-use Rattle.std.proofs.Common.{◌≡◌, ℕ, ◌+◌, ◌<◌, ◌≤◌, Bool, true, false, cond, List, [], ◌∷◌, length, get_or, set, take, Some, None, Option, Result, sym, refl, ap, ◌∙◌, subst, arith, eq-eqb}
-use Rattle.std.proofs.lemmas.List.{take_more_set, take_all}
-use Rattle.std.proofs.lemmas.List.Sums.{sum_by-set, sum_by_push}
+use Rattle.std.proofs.Common.{◌≡◌, ℕ, ◌+◌, Bool, true, false, cond, List, [], ◌∷◌, length, get_or, take, Some, None, Option, Result, sym, refl, ap, ◌∙◌, subst, arith, eq-eqb}
 use Rattle.std.specs.List.{count_by}
 use Rattle.model.specs.declared.refusal.Refusal.{Refusal}
 use Rattle.model.specs.declared.refusal.Refusal.TheVariants.{NoSuchBulletin}
@@ -41,38 +39,10 @@ torn size p q b answer is made =
           (kept.0, (λ i. good (made.mark i) b'.mark (made.then i)) ∙ kept.1);
     }
 
-pub torn_none : {B R : Type 0} (p : Planner B R) → ToreUpAt p p None None
-torn_none p = record { balance = λ m. refl; left = λ b f. let z : ◌≡◌ {A = ℕ} 0 1 = cc in absurd (omega arith) }
-
 -- the first n planners have been asked
 pub record Tearing {B R : Type 0} (ps ps' : List (Planner B R)) (o o' : Option Bulletin) (n : ℕ) : Type 0 where
   pub balance : (m : ℕ) → count_by (knows m) ps' + bit (holds m o) ≡ count_by (knows m) ps + bit (holds m o')
   pub left : (b : Bulletin) → o' ≡ Some b → count_by (knows b.mark) (take n ps') ≡ 0
-
-pub tearing_none : {B R : Type 0} (ps : List (Planner B R)) (o : Option Bulletin) → Tearing ps ps o o 0
-tearing_none ps o = record { balance = λ m. refl; left = λ b f. refl }
-
-pub tearing_more : {B R : Type 0} (ps ps' : List (Planner B R)) (p q : Planner B R) (o o' o'' : Option Bulletin) (n : ℕ)
-    → n < length ps' → p ≡ get_or ps' n p → ToreUpAt p q o' o'' → Tearing ps ps' o o' n → Tearing ps (set ps' n q) o o'' (n + 1)
-tearing_more ps ps' p q o o' o'' n lt read one all = record {
-  balance = λ m.
-      let total = sum_by-set (λ (x : Planner _ _). bit (knows m x)) ps' n q p lt in
-      let was : bit (knows m (get_or ps' n p)) ≡ bit (knows m p) = ap (λ (x : Planner _ _). bit (knows m x)) (sym read) in
-      omega (arith, total, was, one.balance m, all.balance m);
-  left = λ b f.
-      let here = one.left b f in
-      let before = all.left b here.0 in
-      let here_none : bit (knows b.mark q) ≡ 0 = ap bit here.1 in
-      ap (λ (xs : List (Planner _ _)). count_by (knows b.mark) xs) (take_more_set ps' n q lt)
-      ∙ sum_by_push (λ (x : Planner _ _). bit (knows b.mark x)) (take n ps') q
-      ∙ omega (arith, before, here_none);
-}
-
-pub tearing_all : {B R : Type 0} (ps ps' : List (Planner B R)) (o o' : Option Bulletin) (n : ℕ) → length ps' ≤ n → Tearing ps ps' o o' n → ToreUp ps ps' o o'
-tearing_all ps ps' o o' n le t = record {
-  balance = t.balance;
-  left = λ b f. ap (λ (xs : List (Planner _ _)). count_by (knows b.mark) xs) (sym (take_all n ps' le)) ∙ t.left b f;
-}
 
 same_mark : (b : Bulletin) → bit (holds b.mark (Some b)) ≡ 1
 same_mark b = ap bit (eq-eqb b.mark b.mark refl)

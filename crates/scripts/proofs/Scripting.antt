@@ -64,18 +64,6 @@ module _ {B R : Type 0} (size : B → ℕ) (answers : B → ℕ → ℕ → Opti
     pub slots : (j : ℕ) → j < length os → get_or os' j None ≡ held j (take n ss') (get_or os j None)
 
   module _ (L Q : Type 0) (on : Ground) (ps : List (Planner B R)) (os : List (Option Bulletin)) (ss : List Step) where
-    pub running_none : Running L Q on ps os ss ps os ss 0
-    running_none = record {
-      rest = λ k e _. refl;
-      same_planner = λ k e. refl;
-      same_action = λ k e. refl;
-      absent = λ k e lt. absurd (omega arith);
-      answered = λ k e lt. absurd (omega arith);
-      alone = λ i d h _ as-ledger. subst (AsLedger size (get_or ps i d)) (sym (append-nil h)) as-ledger;
-      kept = λ i d _. kept_refl (get_or ps i d);
-      slots = λ j _. refl;
-    }
-
     pub running_all : (ps' : List (Planner B R)) (os' : List (Option Bulletin)) (ss' : List Step) (n : ℕ) → length ss ≤ n → length ss' ≡ length ss
         → Running L Q on ps os ss ps' os' ss' n → Ran L Q size answers automata on ps os ss ps' os' ss'
     running_all ps' os' ss' n le long r =

@@ -1,2 +1,3 @@
 pub mod Scripts
 pub mod Balances
+pub mod Endings

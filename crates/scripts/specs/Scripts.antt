@@ -10,6 +10,7 @@ use Rattle.model.specs.Rules.{Automaton}
 use Rattle.model.specs.Asking.{Asked}
 use Rattle.notices.specs.Notices.{handing}
 use Rattle.ledger.specs.Ledgers.{Call, Ledger, refusal, going, ledger, Ask as AskCall, Open as OpenCall, Put as PutCall, Lift as LiftCall, Issue as IssueCall, TearUp as TearUpCall}
+use Rattle.engine.specs.declared.tables.SearchTables.{SearchTables}
 use Rattle.planner.specs.declared.planner.Bulletin.{Bulletin}
 use Rattle.planner.specs.declared.planner.Planner.{Planner}
 use Rattle.planner.specs.declared.planner.Returned.{Returned}
@@ -241,3 +242,9 @@ TablesAfter reply labels labels' slots slots' = Quiet reply → (labels' ≡ lab
 abbrev pub TablesKept : {L Q : Type 0} → List Step → ℕ → List L → List L → List Q → List Q → Type 0
 TablesKept ss n labels labels' slots slots' =
     ((k : ℕ) (e : Step) → k < n → Quiet (get_or ss k e).reply) → (labels' ≡ labels) × (slots' ≡ slots)
+
+-- the same tables lent, and as long as they were
+abbrev pub SameTables : SearchTables → SearchTables → Type 0
+SameTables t t' =
+    (t'.labels.ghost_name ≡ t.labels.ghost_name) × (t'.slots.ghost_name ≡ t.slots.ghost_name)
+    × (length t'.labels.now ≡ length t.labels.now) × (length t'.slots.now ≡ length t.slots.now)

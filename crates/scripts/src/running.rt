@@ -3,22 +3,22 @@ ghost use Rattle.std.specs.Prelude.{◌≡◌, length, Some, None, Option};
 ghost use Rattle.labels.specs.declared.label.Label.{Label};
 ghost use Rattle.engine.specs.declared.entry.Entry.{Entry};
 ghost use Rattle.scripts.specs.declared.step.Reply.TheVariants.{Opened, Shown};
-ghost use Rattle.scripts.specs.Scripts.{told, back, marked, handed, Changed, ChangedAt, Performed, Ran, TablesAfter, TablesKept, ground_of};
+ghost use Rattle.scripts.specs.Scripts.{told, back, marked, handed, Changed, ChangedAt, Performed, Ran, TablesAfter, SameTables, TablesKept, ground_of};
 ghost use Rattle.scripts.specs.Balances.{Balanced, SlotsBalance};
 
 use crate::step::{Action, Change, Reply, Step};
 use book::Book;
-use labels::Label;
 use model::Refusal;
 use network::Network;
 use planner::{Bulletin, Planner, Returned};
 use rules::Rule;
-use search::Entry;
+use search::SearchTables;
 
 /// What came of an opening, and its bulletin.
 fn opened(answer: Result<Bulletin, Refusal>) -> (Reply, Option<Bulletin>)
     ensures { result ≡ (Opened (marked answer), handed answer) }
 {
+    // a match, as the bulletin is moved into the pair beside its mark
     match answer {
         Ok(bulletin) => (Reply::Opened(Ok(bulletin.mark())), Some(bulletin)),
         Err(refusal) => (Reply::Opened(Err(refusal)), None),
@@ -29,6 +29,7 @@ fn opened(answer: Result<Bulletin, Refusal>) -> (Reply, Option<Bulletin>)
 fn spent(mark: u32, answer: Result<(), Returned>) -> (Reply, Option<Bulletin>)
     ensures { result ≡ (Shown mark (told answer), back answer) }
 {
+    // a match, as the bulletin is moved out of the error beside its refusal
     match answer {
         Ok(()) => (Reply::Shown(mark, Ok(())), None),
         Err(Returned { refusal, bulletin }) => (Reply::Shown(mark, Err(refusal)), Some(bulletin)),
@@ -101,6 +102,7 @@ fn change_at<B: Book, R>(
     ensures changed { ChangedAt B.Book.services slot change bulletins.old bulletins.new result planner.old planner.new }
     ensures balance { SlotsBalance planner.old planner.new bulletins.old bulletins.new }
 {
+    // by index, as a proof knows of a slice after its `get_mut` no more than the length
     if slot >= bulletins.len() {
         return Reply::Idle;
     }
@@ -115,22 +117,23 @@ fn perform<B: Book, R: Rule>(
     network: Network,
     planners: &mut [Planner<B, R>],
     bulletins: &mut [Option<Bulletin>],
-    labels: &mut [Option<Label>],
-    slots: &mut [Entry],
+    tables: &mut SearchTables<'_>,
     step: &mut Step,
 )
-    ensures steps { Performed (Option Label) Entry B.Book.services B.Book.answer R.Rule.automaton (ground_of network.entry.stops network.entry.arcs.now (length labels.old) (length slots.old)) planners.old bulletins.old step.old planners.new bulletins.new step.new }
-    ensures tables { TablesAfter step.new.reply labels.old labels.new slots.old slots.new }
+    ensures steps { Performed (Option Label) Entry B.Book.services B.Book.answer R.Rule.automaton (ground_of network.entry.stops network.entry.arcs.now (length tables.old.labels.now) (length tables.old.slots.now)) planners.old bulletins.old step.old planners.new bulletins.new step.new }
+    ensures tables { TablesAfter step.new.reply tables.old.labels.now tables.new.labels.now tables.old.slots.now tables.new.slots.now }
+    ensures same_tables { SameTables tables.old tables.new }
     ensures balanced { Balanced planners.old bulletins.old → Balanced planners.new bulletins.new }
 {
     let at = step.planner;
+    // by index, as a proof knows of a slice after its `get_mut` no more than the length
     if at >= planners.len() {
         step.reply = Reply::Idle;
         return;
     }
     match step.action {
         Action::Ask(enquiry) => {
-            let result = planners[at].ask(network, enquiry, labels, slots, &mut step.slip);
+            let result = planners[at].ask(network, enquiry, tables, &mut step.slip);
             step.reply = Reply::Asked(result);
         }
         Action::Change(slot, change) => {
@@ -145,15 +148,15 @@ pub fn run<B: Book, R: Rule>(
     network: Network,
     planners: &mut [Planner<B, R>],
     bulletins: &mut [Option<Bulletin>],
-    labels: &mut [Option<Label>],
-    slots: &mut [Entry],
+    tables: &mut SearchTables<'_>,
     script: &mut [Step],
 )
-    ensures steps { Ran (Option Label) Entry B.Book.services B.Book.answer R.Rule.automaton (ground_of network.entry.stops network.entry.arcs.now (length labels.old) (length slots.old)) planners.old bulletins.old script.old planners.new bulletins.new script.new }
-    ensures tables { TablesKept script.new (length script.new) labels.old labels.new slots.old slots.new }
+    ensures steps { Ran (Option Label) Entry B.Book.services B.Book.answer R.Rule.automaton (ground_of network.entry.stops network.entry.arcs.now (length tables.old.labels.now) (length tables.old.slots.now)) planners.old bulletins.old script.old planners.new bulletins.new script.new }
+    ensures tables { TablesKept script.new (length script.new) tables.old.labels.now tables.new.labels.now tables.old.slots.now tables.new.slots.now }
+    ensures same_tables { SameTables tables.old tables.new }
     ensures balanced { Balanced planners.old bulletins.old → Balanced planners.new bulletins.new }
 {
     for step in script.iter_mut() {
-        perform(network, planners, bulletins, labels, slots, step);
+        perform(network, planners, bulletins, tables, step);
     }
 }

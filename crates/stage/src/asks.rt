@@ -5,15 +5,7 @@ use network::Network;
 use planner::Planner;
 use rules::Rule;
 use scripts::{Reply, Step};
-use search::{Entry, Label};
-use std::alloc::{AllocError, Global};
-
-/// The labels and the slots that asks are lent.
-#[derive(Drop)]
-pub(crate) struct AskTables {
-    pub(crate) labels: Vec<Option<Label>>,
-    pub(crate) slots: Vec<Entry>,
-}
+use search::SearchTables;
 
 /// An ask of a planner, with a slip of its own, and what came of it.
 #[derive(Drop)]
@@ -35,37 +27,16 @@ pub struct Calls {
     pub asks: Vec<Ask>,
 }
 
-impl AskTables {
-    /// Tables of so many rows and slots.
-    pub(crate) fn new(heap: Global, rows: usize, slots: usize) -> Result<AskTables, AllocError> {
-        let entry = Entry {
-            second: 0,
-            legs: 0,
-            place: 0,
-        };
-        Ok(AskTables {
-            labels: vec![in heap; None; rows]?,
-            slots: vec![in heap; entry; slots]?,
-        })
-    }
-}
-
 /// Asks each enquiry of its planner, where there is one.
 pub(crate) fn make_asks<B: Book, R: Rule>(
     network: Network,
     planners: &[Planner<B, R>],
-    tables: &mut AskTables,
+    tables: &mut SearchTables<'_>,
     asks: &mut [Ask],
 ) {
     for ask in asks.iter_mut() {
-        if ask.planner < planners.len() {
-            let answer = planners[ask.planner].ask(
-                network,
-                ask.enquiry,
-                tables.labels.as_mut_slice(),
-                tables.slots.as_mut_slice(),
-                ask.slip.as_mut_slice(),
-            );
+        if let Some(planner) = planners.get(ask.planner) {
+            let answer = planner.ask(network, ask.enquiry, tables, ask.slip.as_mut_slice());
             ask.reply = Reply::Asked(answer);
         }
     }

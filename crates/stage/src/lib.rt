@@ -5,4 +5,4 @@ mod asks;
 mod play;
 
 pub use asks::{Ask, Calls};
-pub use play::{Hitch, play_two};
+pub use play::play_two;

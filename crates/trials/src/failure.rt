@@ -1,20 +1,23 @@
 //! Why a run fails.
-ghost use Rattle.trials.specs.Endings.{NoneOut};
+ghost use Rattle.std.specs.Prelude.{◌≡◌};
+ghost use Rattle.trials.specs.declared.failure.Failure.TheVariants.{Io, Laying};
 
-use planner::Bulletin;
+use books::BookFault;
+use network::NetworkFault;
+use rules::RuleFault;
 use std::alloc::AllocError;
 use std::io;
 
-/// Want of memory or of output, a table or a rule that was refused, or bulletins that no planner took in: those can be neither
-/// dropped nor forgotten, so they go out with the failure. The run has no such failure.
+/// Want of memory or of output, or a table or a rule that was refused.
+// the other trials have an enum of their own: there a difference is a failure too, and each enum is one program's
+#[derive(Debug, Drop)]
 pub enum Failure {
     Io(io::Error),
     Laying,
-    Unspent(Option<Bulletin>, Option<Bulletin>),
 }
 
 impl From<io::Error> for Failure {
-    ghost from_gives = { λ _ failure. NoneOut failure };
+    ghost from_gives = { λ error failure. failure ≡ Io error };
 
     fn from(error: io::Error) -> Failure {
         Failure::Io(error)
@@ -22,29 +25,31 @@ impl From<io::Error> for Failure {
 }
 
 impl From<AllocError> for Failure {
-    ghost from_gives = { λ _ failure. NoneOut failure };
-
     fn from(error: AllocError) -> Failure {
         Failure::Io(error.into())
     }
 }
 
-/// What a failed run ends with: a failure that holds no bulletin.
-#[derive(Debug, Drop)]
-pub enum Ending {
-    Io(io::Error),
-    Laying,
+impl From<NetworkFault> for Failure {
+    ghost from_gives = { λ _ failure. failure ≡ Laying };
+
+    fn from(_fault: NetworkFault) -> Failure {
+        Failure::Laying
+    }
 }
 
-impl Failure {
-    /// The failure without bulletins, of which it holds none.
-    pub(crate) fn ending(self) -> Ending
-        requires { NoneOut self }
-    {
-        match self {
-            Failure::Io(error) => Ending::Io(error),
-            Failure::Laying => Ending::Laying,
-            Failure::Unspent(_first, _second) => unreachable(),
-        }
+impl From<BookFault> for Failure {
+    ghost from_gives = { λ _ failure. failure ≡ Laying };
+
+    fn from(_fault: BookFault) -> Failure {
+        Failure::Laying
+    }
+}
+
+impl From<RuleFault> for Failure {
+    ghost from_gives = { λ _ failure. failure ≡ Laying };
+
+    fn from(_fault: RuleFault) -> Failure {
+        Failure::Laying
     }
 }

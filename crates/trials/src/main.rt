@@ -7,13 +7,9 @@ mod script;
 mod tables;
 mod trial;
 
-use crate::failure::Ending;
+use crate::failure::Failure;
 use crate::trial::trial;
 
-/// No error that holds bulletins comes here: nothing lets them go on the way, and every one is taken in.
-fn main(rt: HostRuntime) -> Result<(), Ending> {
-    match trial(&rt) {
-        Ok(()) => Ok(()),
-        Err(failure) => Err(failure.ending()),
-    }
+fn main(rt: HostRuntime) -> Result<(), Failure> {
+    trial(&rt)
 }

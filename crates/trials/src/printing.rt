@@ -1,34 +1,9 @@
 //! The lines of a script that was run.
-use lines::{JourneyLine, LegLine, RefusedLine};
-use model::{Enquiry, Found, Leg, Refusal};
+use lines::{RefusedLine, Slip};
+use model::{Enquiry, Leg, Refusal};
 use network::Network;
 use scripts::{Action, Change, Reply, Step};
 use std::io;
-
-fn print_legs(rt: &HostRuntime, network: Network, legs: &[Leg]) -> io::Result<()> {
-    for leg in legs {
-        if let Some(arc) = network.arcs().get(leg.arc as usize) {
-            let line = LegLine {
-                leg: *leg,
-                arc: *arc,
-            };
-            println!(rt; "{line}")?;
-        }
-    }
-    Ok(())
-}
-
-/// Prints a journey and its legs.
-fn print_journey(
-    rt: &HostRuntime,
-    network: Network,
-    line: JourneyLine,
-    slip: &[Leg],
-) -> io::Result<()> {
-    println!(rt; "{line}")?;
-    let legs = slip.len().min(line.found.legs as usize);
-    print_legs(rt, network, &slip[0..legs])
-}
 
 /// Prints what a change asks for.
 fn print_change(rt: &HostRuntime, change: Change) -> io::Result<()> {
@@ -41,20 +16,6 @@ fn print_change(rt: &HostRuntime, change: Change) -> io::Result<()> {
         Change::Lift(service) => print!(rt; "lift service {service} "),
         Change::Issue => print!(rt; "issue "),
         Change::TearUp => print!(rt; "tear up "),
-    }
-}
-
-/// Prints the answer of an ask.
-fn print_answer(
-    rt: &HostRuntime,
-    network: Network,
-    enquiry: Enquiry,
-    answer: Result<Found, Refusal>,
-    slip: &[Leg],
-) -> io::Result<()> {
-    match answer {
-        Ok(found) => print_journey(rt, network, JourneyLine { enquiry, found }, slip),
-        Err(refusal) => println!(rt; "{}", RefusedLine(refusal)),
     }
 }
 
@@ -90,10 +51,18 @@ fn print_asked(
     network: Network,
     enquiry: Enquiry,
     reply: Reply,
-    slip: &[Leg],
+    legs: &[Leg],
 ) -> io::Result<()> {
     match reply {
-        Reply::Asked(answer) => print_answer(rt, network, enquiry, answer, slip),
+        Reply::Asked(answer) => {
+            let slip = Slip {
+                enquiry,
+                answer,
+                arcs: network.arcs(),
+                legs,
+            };
+            println!(rt; "{slip}")
+        }
         Reply::Idle | Reply::Opened(_) | Reply::Shown(_, _) => println!(rt; "no call"),
     }
 }

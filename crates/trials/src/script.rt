@@ -1,7 +1,7 @@
 //! The script.
 use model::{Enquiry, Leg};
 use notices::Notice;
-use scripts::{Action, Change, Reply, Step};
+use scripts::{Action, Change, Step};
 use std::alloc::{AllocError, Global};
 
 /// The planner over walks and a timetable, and the slot of its bulletin.
@@ -18,17 +18,7 @@ const NO_SERVICE: u32 = 4;
 
 /// A step that has not been made.
 fn step(planner: usize, action: Action) -> Step {
-    let leg = Leg {
-        arc: 0,
-        entered: 0,
-        arrived: 0,
-    };
-    Step {
-        planner,
-        action,
-        reply: Reply::Idle,
-        slip: [leg; 64],
-    }
+    Step::new(planner, action, Leg::default())
 }
 
 /// The enquiry that every ask of the script makes.
@@ -51,8 +41,7 @@ fn late(service: u32) -> Notice {
     Notice {
         service,
         lateness: 600,
-        shut: 0,
-        until: 0,
+        ..Notice::default()
     }
 }
 
@@ -60,9 +49,8 @@ fn late(service: u32) -> Notice {
 fn shut(service: u32) -> Notice {
     Notice {
         service,
-        lateness: 0,
-        shut: 0,
         until: 7_200,
+        ..Notice::default()
     }
 }
 

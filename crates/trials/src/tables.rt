@@ -16,56 +16,37 @@ pub struct Tables {
     other_walks: [u32; 4],
 }
 
-fn arc(tail: u32, head: u32, label: u32, service: u32) -> Arc {
-    Arc {
-        tail,
-        head,
-        label,
-        service,
-    }
-}
-
 impl Tables {
     pub fn new() -> Tables {
         Tables {
             arcs: [
-                arc(0, 1, 0, 0),
-                arc(0, 2, 0, 1),
-                arc(1, 3, 1, 3),
-                arc(2, 3, 0, 2),
+                Arc::new(0, 1, 0, 0),
+                Arc::new(0, 2, 0, 1),
+                Arc::new(1, 3, 1, 3),
+                Arc::new(2, 3, 0, 2),
             ],
             walks: [300, 600, 1_200],
-            connections: [
-                Connection {
-                    departure: 1_000,
-                    arrival: 1_400,
-                },
-                Connection {
-                    departure: 2_000,
-                    arrival: 2_400,
-                },
-            ],
-            timetables: [Span { start: 0, len: 2 }],
+            connections: [Connection::new(1_000, 1_400), Connection::new(2_000, 2_400)],
+            timetables: [Span::new(0, 2)],
             other_walks: [300, 600, 1_200, 900],
         }
     }
-}
 
-/// Becomes the network of the tables.
-pub fn lay_network<'a>(network: &mut Network<'a>, tables: &'a Tables) -> Result<(), NetworkFault> {
-    network.lay(STOPS, &tables.arcs)
-}
+    /// The network of the tables.
+    pub fn network<'a>(&'a self) -> Result<Network<'a>, NetworkFault> {
+        Network::new(STOPS, &self.arcs)
+    }
 
-/// Becomes the book of walks and a timetable.
-pub fn lay_bank<'a>(
-    bank: &mut Bank<Walks<'a>, Timetables<'a>>,
-    tables: &'a Tables,
-) -> Result<(), BookFault> {
-    bank.first.lay(&tables.walks)?;
-    bank.second.lay(&tables.connections, &tables.timetables)
-}
+    /// The book of walks and a timetable.
+    pub fn bank<'a>(&'a self) -> Result<Bank<Walks<'a>, Timetables<'a>>, BookFault> {
+        Ok(Bank {
+            first: Walks::new(&self.walks)?,
+            second: Timetables::new(&self.connections, &self.timetables)?,
+        })
+    }
 
-/// Becomes the book of walks alone.
-pub fn lay_walks<'a>(walks: &mut Walks<'a>, tables: &'a Tables) -> Result<(), BookFault> {
-    walks.lay(&tables.other_walks)
+    /// The book of walks alone.
+    pub fn other_walks<'a>(&'a self) -> Result<Walks<'a>, BookFault> {
+        Walks::new(&self.other_walks)
+    }
 }

@@ -1,16 +1,15 @@
 ghost use Rattle.std.specs.Prelude.{◌≡◌, []};
 ghost use Rattle.notices.specs.Notices.{handing};
-ghost use Rattle.ledger.specs.Ledgers.{Open, Put, Lift, Issue, TearUp, good, allowed};
-ghost use Rattle.planner.specs.Planners.{AsLedger, Made, Planned, closed, state, refusing, returning};
+ghost use Rattle.ledger.specs.Ledgers.{Open, Put, Lift, Issue, TearUp, allowed};
+ghost use Rattle.planner.specs.Planners.{AsLedger, Closed, Made, Planned, refusing, returning};
 
 use crate::planner::{Bulletin, Planner, Returned};
 use book::Book;
-use labels::Label;
 use model::{Enquiry, Found, Leg, Refusal};
 use network::Network;
 use notices::{Notice, NoticeBook, NoticeTable};
 use rules::Rule;
-use search::Entry;
+use search::{Product, SearchTables};
 
 impl Bulletin {
     /// The mark of the planner that it was opened at.
@@ -31,8 +30,7 @@ impl<B: Book, R> Planner<B, R> {
             book: NoticeBook::new(book),
             rule,
             mark,
-            draft: NoticeTable::new(),
-            drafting: false,
+            draft: None,
         }
     }
 
@@ -41,19 +39,11 @@ impl<B: Book, R> Planner<B, R> {
         ensures answer { result ≡ handing (record { mark = self.old.mark }) (refusing B.Book.services self.old Open) }
         ensures made { Made B.Book.services Open self.old self.new }
     {
-        if self.drafting {
+        if self.draft.is_some() {
             return Err(Refusal::BulletinOpen);
         }
-        self.draft = self.book.notices();
-        self.drafting = true;
+        self.draft = Some(self.book.notices());
         Ok(Bulletin { mark: self.mark })
-    }
-
-    /// Whether a draft is open and the bulletin has this planner's mark.
-    fn knows(&self, bulletin: &Bulletin) -> bool
-        ensures { result ≡ good self.now.mark bulletin.now.mark (state self.now) }
-    {
-        self.drafting && bulletin.mark == self.mark
     }
 
     /// Whether the notice's fields are in range and its service is one of the book's.
@@ -68,13 +58,16 @@ impl<B: Book, R> Planner<B, R> {
         ensures answer { result ≡ handing tt (refusing B.Book.services self.old (Put bulletin.now.mark notice)) }
         ensures made { Made B.Book.services (Put bulletin.now.mark notice) self.old self.new }
     {
-        if !self.knows(bulletin) {
-            return Err(Refusal::NoSuchBulletin);
+        let allowed = self.allows(&notice);
+        match &mut self.draft {
+            Some(draft) if bulletin.mark == self.mark => {
+                if !allowed {
+                    return Err(Refusal::NoticeField);
+                }
+                draft.put(notice)
+            }
+            _ => Err(Refusal::NoSuchBulletin),
         }
-        if !self.allows(&notice) {
-            return Err(Refusal::NoticeField);
-        }
-        self.draft.put(notice)
     }
 
     /// Takes the service's notice out of the draft.
@@ -82,18 +75,27 @@ impl<B: Book, R> Planner<B, R> {
         ensures answer { result ≡ handing tt (refusing B.Book.services self.old (Lift bulletin.now.mark service)) }
         ensures made { Made B.Book.services (Lift bulletin.now.mark service) self.old self.new }
     {
-        if !self.knows(bulletin) {
-            return Err(Refusal::NoSuchBulletin);
+        match &mut self.draft {
+            Some(draft) if bulletin.mark == self.mark => draft.lift(service),
+            _ => Err(Refusal::NoSuchBulletin),
         }
-        self.draft.lift(service)
     }
 
-    /// Closes the draft and takes the bulletin in: the one place where a bulletin ends.
-    fn close(&mut self, bulletin: Bulletin)
-        ensures { self.new ≡ closed self.old }
+    /// Closes the draft and takes the bulletin in, the one place where a bulletin ends; or hands the bulletin back, where no draft is open
+    /// or it has another planner's mark.
+    fn close(&mut self, bulletin: Bulletin) -> Result<NoticeTable, Returned>
+        ensures { Closed bulletin self.old self.new result }
     {
-        let Bulletin { mark: _ } = bulletin;
-        self.drafting = false;
+        match self.draft.take_if(|_draft| bulletin.mark == self.mark) {
+            Some(draft) => {
+                let Bulletin { mark: _ } = bulletin;
+                Ok(draft)
+            }
+            None => Err(Returned {
+                refusal: Refusal::NoSuchBulletin,
+                bulletin,
+            }),
+        }
     }
 
     /// Makes the draft's notices the standing ones.
@@ -101,14 +103,8 @@ impl<B: Book, R> Planner<B, R> {
         ensures answer { result ≡ returning bulletin (refusing B.Book.services self.old (Issue bulletin.mark)) }
         ensures made { Made B.Book.services (Issue bulletin.mark) self.old self.new }
     {
-        if !self.knows(&bulletin) {
-            return Err(Returned {
-                refusal: Refusal::NoSuchBulletin,
-                bulletin,
-            });
-        }
-        self.book.stand(self.draft);
-        self.close(bulletin);
+        let draft = self.close(bulletin)?;
+        self.book.stand(draft);
         Ok(())
     }
 
@@ -117,13 +113,7 @@ impl<B: Book, R> Planner<B, R> {
         ensures answer { result ≡ returning bulletin (refusing B.Book.services self.old (TearUp bulletin.mark)) }
         ensures made { Made B.Book.services (TearUp bulletin.mark) self.old self.new }
     {
-        if !self.knows(&bulletin) {
-            return Err(Returned {
-                refusal: Refusal::NoSuchBulletin,
-                bulletin,
-            });
-        }
-        self.close(bulletin);
+        self.close(bulletin)?;
         Ok(())
     }
 }
@@ -135,14 +125,17 @@ impl<B: Book, R: Rule> Planner<B, R> {
         &self,
         network: Network,
         enquiry: Enquiry,
-        labels: &mut [Option<Label>],
-        slots: &mut [Entry],
+        tables: &mut SearchTables<'_>,
         slip: &mut [Leg],
     ) -> Result<Found, Refusal>
-        ensures { Planned B.Book.services B.Book.answer R.Rule.automaton self.now network.entry.stops network.entry.arcs.now enquiry labels.old labels.new slots.old slots.new slip.old slip.new result }
+        ensures planned { Planned B.Book.services B.Book.answer R.Rule.automaton self.now network.entry.stops network.entry.arcs.now enquiry tables.old.labels.now tables.new.labels.now tables.old.slots.now tables.new.slots.now slip.old slip.new result }
+        ensures same_tables { (tables.new.labels.ghost_name ≡ tables.old.labels.ghost_name) × (tables.new.slots.ghost_name ≡ tables.old.slots.ghost_name) }
     {
-        search::ask(
-            network, &self.book, &self.rule, enquiry, labels, slots, slip,
-        )
+        let product = Product {
+            network,
+            book: &self.book,
+            rule: &self.rule,
+        };
+        search::ask(&product, enquiry, tables, slip)
     }
 }

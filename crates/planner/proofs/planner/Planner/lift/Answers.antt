@@ -1,15 +1,13 @@
-use Rattle.std.proofs.Common.{sym, ap, ◌∙◌}
-use Rattle.notices.specs.Notices.{handing}
-use Rattle.planner.proofs.Steps.{lift_strange, lift_made}
+use Rattle.std.proofs.Common.{refl, arith}
+use Rattle.std.proofs.lemmas.Grind.{common_steps}
+use Rattle.planner.proofs.Steps.{made}
 use Rattle.planner.proofs.planner.Planner.lift.Goals as goal
 
-pub returns-then-not-knows : goal.returns-then-not-knows
-returns-then-not-knows g c =
-    let r = lift_strange g.B.Book.services c.args.self.now c.args.bulletin.now.mark (sym c.if-not-knows.ensures) c.args.service in
-    record { answer = sym (ap (handing tt) r.0); made = r.1 }
+pub returns-in-Some-clause-made : goal.returns-in-Some-clause-made
+returns-in-Some-clause-made g c = made _ _ _ _ refl refl refl (grind (arith, common_steps))
 
-pub returns : goal.returns
-returns g c =
-    let e = c.lift.ensures in
-    let r = lift_made g.B.Book.services c.args.self.now c.args.bulletin.now.mark (sym c.if-not-knows.ensures) c.args.service c.lift.new.self e.after in
-    record { answer = e.answer ∙ sym (ap (handing tt) r.0); made = r.1 }
+pub returns-in_default-clause-made : goal.returns-in_default-clause-made
+returns-in_default-clause-made g c = made _ _ _ _ refl refl refl (grind (arith, common_steps))
+
+pub returns-in_default-2-clause-made : goal.returns-in_default-2-clause-made
+returns-in_default-2-clause-made g c = made _ _ _ _ refl refl refl (grind (arith, common_steps))

@@ -1,15 +1,10 @@
-use Rattle.std.proofs.Common.{sym, ap}
-use Rattle.planner.specs.Planners.{returning, state}
-use Rattle.planner.proofs.Steps.{tear_up_strange, tear_up_done}
+use Rattle.std.proofs.Common.{arith}
+use Rattle.std.proofs.lemmas.Grind.{common_steps}
+use Rattle.planner.proofs.Steps.{made}
 use Rattle.planner.proofs.planner.Planner.tear_up.Goals as goal
 
-pub returns-then-not-knows : goal.returns-then-not-knows
-returns-then-not-knows g c =
-    let r = tear_up_strange g.B.Book.services c.args.self.now c.args.bulletin.mark (sym c.if-not-knows.ensures) in
-    record { answer = sym (ap (returning c.args.bulletin) r.0); made = r.1 }
+pub returns-in_err-close-clause-made : goal.returns-in_err-close-clause-made
+returns-in_err-close-clause-made g c = made _ _ _ _ (grind (arith, common_steps)) (grind (arith, common_steps)) (grind (arith, common_steps)) (grind (arith, common_steps))
 
-pub returns : goal.returns
-returns g c =
-    let e = c.close.ensures in
-    let r = tear_up_done g.B.Book.services c.args.self.now c.args.bulletin.mark (sym c.if-not-knows.ensures) c.close.new.self (ap (λ q. q.book.below) e) (ap (λ q. q.rule) e) (ap (λ q. q.mark) e) (ap state e) in
-    record { answer = sym (ap (returning c.args.bulletin) r.0); made = r.1 }
+pub returns-clause-made : goal.returns-clause-made
+returns-clause-made g c = made _ _ _ _ (grind (arith, common_steps)) (grind (arith, common_steps)) (grind (arith, common_steps)) (grind (arith, common_steps))
