@@ -60,7 +60,7 @@ impl<B: Book, R: Rule> Product<'_, B, R> {
     {
         let from = self.place(number);
         let settled = frontier.settle(number, label);
-        let range = self.network.leaving(from.stop);
+        let range = self.network.leaving(from.stop).numbers();
         self.relax(frontier, range, from, settled);
     }
 

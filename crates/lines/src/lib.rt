@@ -5,9 +5,11 @@ ghost use Rattle.std.specs.Prelude.{◌≡◌, Some};
 ghost use Rattle.lines.specs.Lines.{journey_text, leg_text, letter_of, refused_text, fault_text, layer_text};
 
 mod slip;
+mod slip_lines;
 
 use model::{Arc, Enquiry, Found, Layer, Leg, Mode, Refusal};
 pub use slip::Slip;
+pub use slip_lines::{SlipLine, SlipLines};
 use std::fmt;
 use wire::Fault;
 

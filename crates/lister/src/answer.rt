@@ -4,7 +4,7 @@ ghost use Rattle.model.specs.declared.refusal.Refusal.TheVariants.{NoSuchStart, 
 
 use crate::survey::{Reached, Survey};
 use crate::trips::World;
-use model::{Enquiry, HORIZON, Leg, MOST_STATES, Place, Refusal};
+use model::{Enquiry, HORIZON, Leg, Place, Refusal};
 use std::alloc::{AllocError, Global};
 
 /// The lengths of the tables that an ask is lent.
@@ -47,7 +47,7 @@ pub fn refused_by_tests(world: World, enquiry: Enquiry, sizes: Sizes) -> Result<
         Err(Refusal::NoSuchTarget)
     } else if enquiry.second > HORIZON {
         Err(Refusal::SecondAboveHorizon)
-    } else if states > MOST_STATES {
+    } else if states > 64 {
         Err(Refusal::TooManyStates)
     } else if any_unserved(world) {
         Err(Refusal::NoSuchService)

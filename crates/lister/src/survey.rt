@@ -1,15 +1,17 @@
 //! What the list says of each place.
+ghost use Rattle.std.specs.Prelude.{◌≡◌, length, IfOk, vec_len};
+
 use crate::trips::{Trip, World, list_trips};
 use model::Place;
 use std::alloc::{AllocError, Global};
 
-/// A place that some eager trip ends at.
+/// A place that some trip ends at.
 #[derive(Clone, Copy, Drop)]
 pub struct Reached {
     pub place: Place,
     /// Its first second.
     pub first: u32,
-    /// The fewest legs of an eager trip to it.
+    /// The fewest legs of an eager trip to it; where none ends there, more than any slip has rows.
     pub rank: u32,
     /// How many eager trips have so many legs.
     pub ways: usize,
@@ -27,13 +29,6 @@ struct First {
 pub struct Survey {
     pub places: Vec<Reached>,
     pub trips: Vec<Trip>,
-}
-
-/// A trip, and whether it is eager: it never waits, and is at each of its places at its first second.
-#[derive(Clone, Copy, Drop)]
-struct Weighed {
-    trip: Trip,
-    eager: bool,
 }
 
 /// The least arrival of the trips that end at a place.
@@ -64,44 +59,52 @@ fn is_first(firsts: &[First], trip: Trip) -> bool {
     firsts.iter().any(|first| first.place == trip.at && first.second == trip.arrival)
 }
 
-/// The trips, with which of them are eager. A trip's last leg comes after an eager trip.
-fn weigh_trips(heap: Global, trips: &[Trip], firsts: &[First]) -> Result<Vec<Weighed>, AllocError> {
-    let mut weighed: Vec<Weighed> = Vec::new(heap);
-    for trip in trips {
+/// Says of each trip whether it is eager. An eager trip's last leg comes after an eager trip.
+fn weigh_trips(trips: &mut [Trip], firsts: &[First]) {
+    // by index, since a trip is weighed by one before it in the same list
+    for index in 0..trips.len() {
+        let trip = trips[index];
         let so_far = match trip.last {
             None => true,
-            Some((index, _)) => weighed.get(index).is_some_and(|before| before.eager),
+            Some((before, _)) => trips.get(before).is_some_and(|before| before.eager),
         };
-        weighed.push(Weighed {
-            trip: *trip,
-            eager: so_far && !trip.waits && is_first(firsts, *trip),
-        })?;
+        trips[index].eager = so_far && !trip.waits && is_first(firsts, trip);
     }
-    Ok(weighed)
 }
 
 /// The fewest legs of the eager trips that end at a place.
-fn fewest_legs(weighed: &[Weighed], place: Place) -> Option<u32> {
-    weighed
+fn fewest_legs(trips: &[Trip], place: Place) -> Option<u32> {
+    trips
         .iter()
-        .filter(|one| one.eager && one.trip.at == place)
-        .map(|one| one.trip.legs)
+        .filter(|trip| trip.eager && trip.at == place)
+        .map(|trip| trip.legs)
         .min()
 }
 
-/// The place with its rank, by the eager trips that end there, and how many have that many legs; none where no eager trip ends there.
-fn ranked(first: First, weighed: &[Weighed]) -> Option<Reached> {
-    let rank = fewest_legs(weighed, first.place)?;
-    let ways = weighed
+/// The place with its rank, by the eager trips that end there, and how many have that many legs. A place that no eager trip ends at stays among
+/// the places: were there one, waiting would pay, and no planner's answer would be as that of the list.
+fn ranked(first: First, trips: &[Trip]) -> Reached {
+    let rank = fewest_legs(trips, first.place).unwrap_or(u32::MAX);
+    let ways = trips
         .iter()
-        .filter(|one| one.eager && one.trip.at == first.place && one.trip.legs == rank)
+        .filter(|trip| trip.eager && trip.at == first.place && trip.legs == rank)
         .count();
-    Some(Reached {
+    Reached {
         place: first.place,
         first: first.second,
         rank,
         ways,
-    })
+    }
+}
+
+/// All places that trips end at, with their ranks.
+fn rank_places(heap: Global, firsts: &[First], trips: &[Trip]) -> Result<Vec<Reached>, AllocError>
+    ensures { IfOk result (λ places. vec_len places ≡ length firsts.now) }
+{
+    firsts
+        .iter()
+        .map(|first| ranked(*first, trips))
+        .collect(heap)
 }
 
 /// Lists the trips from a stop at a second, and says what they say of the places; none where there are too many trips.
@@ -111,14 +114,11 @@ pub fn survey_from(
     start: u32,
     second: u32,
 ) -> Result<Option<Survey>, AllocError> {
-    let Some(trips) = list_trips(heap, world, start, second)? else {
+    let Some(mut trips) = list_trips(heap, world, start, second)? else {
         return Ok(None);
     };
     let firsts = list_firsts(heap, world, trips.as_slice())?;
-    let weighed = weigh_trips(heap, trips.as_slice(), firsts.as_slice())?;
-    let places = firsts
-        .iter()
-        .filter_map(|first| ranked(*first, weighed.as_slice()))
-        .collect(heap)?;
+    weigh_trips(trips.as_mut_slice(), firsts.as_slice());
+    let places = rank_places(heap, firsts.as_slice(), trips.as_slice())?;
     Ok(Some(Survey { places, trips }))
 }

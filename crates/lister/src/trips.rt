@@ -30,6 +30,8 @@ pub struct Trip {
     pub arrival: u32,
     /// Whether it waits before some leg.
     pub waits: bool,
+    /// Whether it is eager: it never waits, and is at each of its places at its first second. Said once all trips are listed.
+    pub(crate) eager: bool,
 }
 
 impl Trip {
@@ -44,6 +46,7 @@ impl Trip {
             },
             arrival: second,
             waits: false,
+            eager: false,
         }
     }
 
@@ -55,6 +58,7 @@ impl Trip {
             at,
             arrival: leg.arrived,
             waits: self.waits || leg.entered != self.arrival,
+            eager: false,
         }
     }
 }

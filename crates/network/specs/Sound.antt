@@ -5,6 +5,7 @@ use Rattle.model.specs.declared.network.Arc.{Arc}
 use Rattle.model.specs.declared.refusal.Refusal.{Refusal}
 use Rattle.model.specs.declared.refusal.Refusal.TheVariants as refusal
 use Rattle.std.specs.declared.ops.Range.{Range}
+use Rattle.network.specs.declared.fault.ArcRange.{ArcRange}
 use Rattle.network.specs.declared.fault.NetworkFault.{NetworkFault}
 use Rattle.network.specs.declared.fault.NetworkFault.TheVariants.{StopCount, ArcCount, ArcField, TailFalls}
 
@@ -100,6 +101,10 @@ pub record Strides (arcs : List Arc) (stop stride cut : ℕ) : Type 0 where
   pub within : cut ≤ length arcs
   pub before : NoneAbove arcs stop cut
   pub past : (d : Arc) → cut + stride ≤ length arcs → stop < (get_or arcs (cut + (stride - 1)) d).tail
+
+-- the numbers of the arcs of a range
+abbrev pub numbers : ArcRange → Range ℕ
+numbers range = record { start = range.first; end = range.end }
 
 -- the arcs of the range leave the stop, those before it leave lower stops, and those after it leave higher ones
 pub record Leaving (arcs : List Arc) (stop : ℕ) (range : Range ℕ) : Type 0 where

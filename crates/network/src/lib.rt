@@ -4,5 +4,5 @@
 mod fault;
 mod network;
 
-pub use fault::NetworkFault;
+pub use fault::{ArcRange, NetworkFault};
 pub use network::Network;

@@ -1,8 +1,8 @@
 //! The network value.
 ghost use Rattle.std.specs.Prelude.{◌≡◌, ◌<◌, ◌≤◌, [], length, Ok, Err, IfSome, Decides};
-ghost use Rattle.network.specs.Sound.{Counted, Fit, Ascending, InRange, Tested, Sound, FirstFault, Cut, Below, Above, Around, NoneAbove, Strides, Leaving};
+ghost use Rattle.network.specs.Sound.{Counted, Fit, Ascending, InRange, Tested, Sound, FirstFault, Cut, Below, Above, Around, NoneAbove, Strides, Leaving, numbers};
 
-use crate::fault::NetworkFault;
+use crate::fault::{ArcRange, NetworkFault};
 use model::{Arc, LABELS, MOST_ARCS, MOST_STOPS};
 use std::ops::Range;
 
@@ -66,13 +66,13 @@ impl<'a> Network<'a> {
     }
 
     /// The arcs that leave a stop: those and no others. None leaves a stop that is not there.
-    pub fn leaving(self, stop: u32) -> Range<usize>
-        ensures { Leaving self.entry.arcs.now stop result }
+    pub fn leaving(self, stop: u32) -> ArcRange
+        ensures { Leaving self.entry.arcs.now stop (numbers result) }
     {
         let first = self.first_from(stop);
         let near = self.strides(stop, first, STRIDE);
         let end = self.strides(stop, near, 1);
-        first..end
+        ArcRange { first, end }
     }
 
     /// The number after the arc `i`, where there is that arc and its tail is below `stop`.

@@ -30,6 +30,9 @@ placed s ns i e =
     let l = ltb-true _ _ p.0 in
     (omega (arith, p.1, place_is s ns), omega (arith, p.1, l))
 
+pub position_within : (s : ℕ) (ns : List Notice) (i : ℕ) → position (λ n. eqb n.service s) ns ≡ Some i → i < length ns
+position_within s ns i e = (placed s ns i e).1
+
 absent : (s : ℕ) (ns : List Notice) → position (λ n. eqb n.service s) ns ≡ None → length ns ≤ place_of s ns
 absent s ns e =
     let l = ltb-false _ _ (cond_none (ltb (position_or_len (λ n. eqb n.service s) ns) (length ns)) (position_or_len (λ n. eqb n.service s) ns) e) in

@@ -1,3 +1,4 @@
+pub mod Blanks
 pub mod Notices
 pub mod Tables
 pub mod NoticeLaws

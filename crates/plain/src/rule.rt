@@ -1,8 +1,13 @@
 //! A rule as plain parts.
 ghost use Rattle.std.specs.Prelude.{◌≡◌, ◌-◌, ◌*◌, ◌^◌, min};
-ghost use Rattle.plain.specs.Parts.{states_of};
+ghost use Rattle.plain.specs.Parts.{states_of, boarded};
 
-use model::{LABELS, MOST_STATES, Mode};
+/// The most states of a pair.
+// its own, as the labels below: planners take theirs from `model`, and are set against this
+const MOST_STATES: u32 = 64;
+
+/// How many labels there are.
+const LABELS: usize = 6;
 
 /// So many states, a next state for each of them and each label, and whether each is an end.
 #[derive(Drop)]
@@ -45,9 +50,7 @@ impl Part {
         match self {
             Part::Any => Some(state),
             Part::Boardings(most) => boarded(*most, state, label),
-            Part::Table(table) => *table
-                .next
-                .get(state as usize * LABELS as usize + label as usize)?,
+            Part::Table(table) => *table.next.get(state as usize * LABELS + label as usize)?,
         }
     }
 
@@ -59,9 +62,11 @@ impl Part {
     }
 }
 
-/// One more for a boarding, up to the most; other labels stay.
-fn boarded(most: u32, state: u32, label: u32) -> Option<u32> {
-    if Mode::try_from(label).is_ok_and(|mode| mode.is_boarding()) {
+/// Bus, ship and rail, 1 to 3, are boardings: one more each, up to the most; other labels stay.
+fn boarded(most: u32, state: u32, label: u32) -> Option<u32>
+    ensures { result ≡ boarded most state label }
+{
+    if matches!(label, 1..=3) {
         state.checked_add(1).filter(|next| *next <= most)
     } else {
         Some(state)

@@ -29,7 +29,7 @@ pub(crate) fn begin(question: Question<'_, '_, '_>, queue: &mut Queue<'_, Depart
     requires room { leaving_count question.network.arcs.now question.stop ≤ capacity queue.old }
     ensures { Begun (asked question.entry) (Leaves (asked question.entry)) (contents queue.new) result }
 {
-    let range = question.network.leaving(question.stop);
+    let range = question.network.leaving(question.stop).numbers();
     let mut count = 0;
     for i in range {
         let connections = line(question, i);

@@ -20,7 +20,7 @@ pub(crate) fn test(
     if second > HORIZON {
         return Err(Refusal::SecondAboveHorizon);
     }
-    if slots < network.leaving(stop).len() {
+    if slots < network.leaving(stop).numbers().len() {
         return Err(Refusal::QueueShort);
     }
     Ok(())

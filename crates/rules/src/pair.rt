@@ -39,11 +39,14 @@ impl<A: Rule, B: Rule> Rule for Pair<A, B> {
 
     ghost lawful = { λ r. paired_lawful _ _ (A.Rule.lawful r.first) (B.Rule.lawful r.second) };
 
-    /// A rule answers a number of states; one above the most says that the pair does not fit.
+    /// A rule answers a number of states; one above the most says that the pair does not fit. Each rule is asked once, so that the states of
+    /// pairs of pairs take one question for each rule in them.
     fn states(&self) -> u32 {
-        match self.width() {
-            Some(width) => self.first.states() * width,
-            None => MOST_STATES + 1,
+        let states = self.first.states() * self.second.states();
+        if states <= MOST_STATES {
+            states
+        } else {
+            MOST_STATES + 1
         }
     }
 

@@ -16,7 +16,7 @@ use workspace::AskTables;
 /// The mark of the run's one planner.
 const MARK: u32 = 0;
 
-/// Answers an enquiry, and prints its slip.
+/// Answers an enquiry, and prints its slip, each line by a write of its own: what several runs write to one output mixes by lines.
 fn answer<B: Book, R: Rule>(
     rt: &HostRuntime,
     network: Network,
@@ -36,7 +36,10 @@ fn answer<B: Book, R: Rule>(
         arcs: network.arcs(),
         legs: tables.slip.as_slice(),
     };
-    println!(rt; "{slip}")
+    for line in slip.lines() {
+        println!(rt; "{line}")?;
+    }
+    Ok(())
 }
 
 /// Answers the enquiries that stand in the input from a place on.

@@ -61,7 +61,10 @@ fn print_asked(
                 arcs: network.arcs(),
                 legs,
             };
-            println!(rt; "{slip}")
+            for line in slip.lines() {
+                println!(rt; "{line}")?;
+            }
+            Ok(())
         }
         Reply::Idle | Reply::Opened(_) | Reply::Shown(_, _) => println!(rt; "no call"),
     }

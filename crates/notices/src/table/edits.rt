@@ -1,10 +1,10 @@
-ghost use Rattle.std.specs.Prelude.{◌≡◌, [], ◌==◌, position};
+ghost use Rattle.std.specs.Prelude.{◌≡◌, ◌<◌, [], ◌∷◌, ◌++◌, ◌==◌, position};
+ghost use Rattle.std.specs.List.{remove};
 ghost use Rattle.notices.specs.Notices.{notice_of, put_in, lift_from, put_refusal, lift_refusal, unless, handing};
 ghost use Rattle.notices.specs.Tables.{listed};
 
 use crate::notice::Notice;
-use crate::table::NoticeTable;
-use arrayvec::ArrayVec;
+use crate::table::{BLANK, MOST_NOTICES, NoticeTable};
 use model::Refusal;
 
 impl NoticeTable {
@@ -13,24 +13,49 @@ impl NoticeTable {
         ensures { listed result ≡ [] }
     {
         NoticeTable {
-            items: ArrayVec::new(),
+            items: [BLANK; MOST_NOTICES],
+            len: 0,
         }
+    }
+
+    /// The notices that stand in it.
+    fn standing(&self) -> &[Notice]
+        ensures { result.now ≡ listed self.now }
+    {
+        &self.items[..self.len]
     }
 
     /// The same notices in a table of their own.
     pub fn copied(&self) -> NoticeTable
         ensures { result ≡ self.now }
     {
-        let mut items = ArrayVec::new();
-        let _ = items.try_extend_from_slice(self.items.as_slice());
-        NoticeTable { items }
+        *self
+    }
+
+    /// Adds a notice at the end.
+    fn push(&mut self, notice: Notice)
+        requires { self.old.len < 64 }
+        ensures { listed self.new ≡ listed self.old ++ notice ∷ [] }
+    {
+        self.items[self.len] = notice;
+        self.len += 1;
+    }
+
+    /// Takes the notice of an index out, and closes the gap.
+    fn remove(&mut self, at: usize)
+        requires { at < self.old.len }
+        ensures { listed self.new ≡ remove (listed self.old) at }
+    {
+        self.items.copy_within(at + 1..self.len, at);
+        self.len -= 1;
+        self.items[self.len] = BLANK;
     }
 
     /// The index of the service's notice.
     fn place(&self, service: u32) -> Option<usize>
         ensures { result ≡ position (λ notice. notice.service == service) (listed self.now) }
     {
-        self.items
+        self.standing()
             .iter()
             .position(|notice| notice.service == service)
     }
@@ -39,7 +64,7 @@ impl NoticeTable {
     pub fn find(&self, service: u32) -> Option<Notice>
         ensures { result ≡ notice_of service (listed self.now) }
     {
-        self.items
+        self.standing()
             .iter()
             .copied()
             .find(|notice| notice.service == service)
@@ -55,10 +80,11 @@ impl NoticeTable {
                 self.items[at].amend(&notice);
                 Ok(())
             }
-            None => self
-                .items
-                .try_push(notice)
-                .map_err(|_full| Refusal::NoticesFull),
+            None if self.len == MOST_NOTICES => Err(Refusal::NoticesFull),
+            None => {
+                self.push(notice);
+                Ok(())
+            }
         }
     }
 
@@ -68,7 +94,15 @@ impl NoticeTable {
         ensures after { listed self.new ≡ unless (lift_refusal service (listed self.old)) (lift_from service (listed self.old)) (listed self.old) }
     {
         let at = self.place(service).ok_or(Refusal::NothingToLift)?;
-        self.items.remove(at);
+        self.remove(at);
         Ok(())
+    }
+}
+
+impl Default for NoticeTable {
+    fn default() -> NoticeTable
+        ensures { listed result ≡ [] }
+    {
+        NoticeTable::new()
     }
 }

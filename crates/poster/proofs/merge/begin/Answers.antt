@@ -2,6 +2,7 @@ use Rattle.std.specs.declared.ops.Range.{Range}
 use Rattle.std.proofs.Common.{◌≡◌, ℕ, ◌+◌, ◌-◌, ◌≤◌, List, length, sym, ap, ◌∙◌, subst, arith}
 use Rattle.model.specs.declared.tables.Connection.{Connection}
 use Rattle.queue.specs.Contents.{contents}
+use Rattle.network.proofs.Ranges.{leaving_numbers}
 use Rattle.meanings.proofs.Sounds.{sound_timetables}
 use Rattle.poster.specs.Asked.{asked}
 use Rattle.poster.specs.Boards.{Listing}
@@ -25,10 +26,10 @@ overflow_cast-place c =
 
 pub enqueue-requires : goal.enqueue-requires
 enqueue-requires c =
-    let n = leaving_counted c.args.question.network.arcs.now c.args.question.stop c.leaving-range.result c.leaving-range.ensures in
+    let n = leaving_counted c.args.question.network.arcs.now c.args.question.stop c.numbers-range.result (leaving_numbers c.args.question.network.arcs.now c.args.question.stop c.leaving.result _ c.numbers-range.ensures c.leaving.ensures) in
     let range = c.into_iter-i-iterator.ensures.into_iter_gives in
-    let first : c.into_iter-i-iterator.result.start ≡ c.leaving-range.result.start = ap Range.start range in
-    let last : c.into_iter-i-iterator.result.end ≡ c.leaving-range.result.end = ap Range.end range in
+    let first : c.into_iter-i-iterator.result.start ≡ c.numbers-range.result.start = ap Range.start range in
+    let last : c.into_iter-i-iterator.result.end ≡ c.numbers-range.result.end = ap Range.end range in
     let steps = c.in-Some.ensures.steps.1 in
     let kept = c.loop-i.invariant in
     omega (arith, steps.0, kept.1, kept.3, kept.4, kept.5, kept.6, c.requires.room)
@@ -40,8 +41,8 @@ overflow_add-count c =
     let fewer : c.due_count-due.result ≤ length (line l c.in-Some.i) = omega (arith, caught_few (line l c.in-Some.i) c.args.question.second up, c.due_count-due.ensures) in
     let few : length (line l c.in-Some.i) ≤ 512 = few_on_line l (sound_timetables _ _ c.args.question.timetables.now.sound).fit c.in-Some.i in
     let most : length c.args.question.network.arcs.now ≤ 8192 = c.args.question.network.counted.1 in
-    let within : c.leaving-range.result.end ≤ length c.args.question.network.arcs.now = c.leaving-range.ensures.within in
-    let last : c.into_iter-i-iterator.result.end ≡ c.leaving-range.result.end = ap Range.end c.into_iter-i-iterator.ensures.into_iter_gives in
+    let within : c.numbers-range.result.end ≤ length c.args.question.network.arcs.now = (leaving_numbers c.args.question.network.arcs.now c.args.question.stop c.leaving.result _ c.numbers-range.ensures c.leaving.ensures).within in
+    let last : c.into_iter-i-iterator.result.end ≡ c.numbers-range.result.end = ap Range.end c.into_iter-i-iterator.ensures.into_iter_gives in
     let kept = c.loop-i.invariant in
     omega (arith, kept.2, kept.4, kept.5, kept.6)
 
@@ -75,8 +76,8 @@ returns c =
     let l : Listing = asked c.args.question in
     let kept = c.loop-i.invariant in
     let range = c.into_iter-i-iterator.ensures.into_iter_gives in
-    let first : c.into_iter-i-iterator.result.start ≡ c.leaving-range.result.start = ap Range.start range in
-    let last : c.loop-i.i-iterator.start ≡ c.leaving-range.result.end = omega (arith, ap Range.end range, c.in-None.ensures.steps.1.0, kept.5, kept.6) in
-    begun_leaving l c.leaving-range.result c.leaving-range.ensures (contents c.loop-i.queue) c.loop-i.count
-    (subst (λ (z : ℕ). Begun l (Between c.leaving-range.result.start z) (contents c.loop-i.queue) c.loop-i.count) last
+    let first : c.into_iter-i-iterator.result.start ≡ c.numbers-range.result.start = ap Range.start range in
+    let last : c.loop-i.i-iterator.start ≡ c.numbers-range.result.end = omega (arith, ap Range.end range, c.in-None.ensures.steps.1.0, kept.5, kept.6) in
+    begun_leaving l c.numbers-range.result (leaving_numbers c.args.question.network.arcs.now c.args.question.stop c.leaving.result _ c.numbers-range.ensures c.leaving.ensures) (contents c.loop-i.queue) c.loop-i.count
+    (subst (λ (z : ℕ). Begun l (Between c.numbers-range.result.start z) (contents c.loop-i.queue) c.loop-i.count) last
     (subst (λ (z : ℕ). Begun l (Between z c.loop-i.i-iterator.start) (contents c.loop-i.queue) c.loop-i.count) first kept.0))

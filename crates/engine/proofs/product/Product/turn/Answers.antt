@@ -3,6 +3,7 @@ use Rattle.std.proofs.Common.{◌≡◌, ℕ, ◌+◌, ◌*◌, ◌/◌, ◌≤�
 use Rattle.model.specs.declared.network.Place.{Place}
 use Rattle.model.specs.Trips.{World}
 use Rattle.network.specs.Sound.{Leaving}
+use Rattle.network.proofs.Ranges.{leaving_numbers}
 use Rattle.labels.specs.declared.label.Label.{Label}
 use Rattle.labels.specs.Table.{Table, settle, relax_below}
 use Rattle.labels.specs.Rows.{Rows, place_of, view}
@@ -16,8 +17,8 @@ pub relax-requires-clause-room : goal.relax-requires-clause-room
 relax-requires-clause-room g c =
     let W : World = world_of g.B.Book.answer g.R.Rule.automaton c.args.self.now in
     let rows : Rows = c.args.frontier.now.labels.now in
-    let leaving : Leaving W.arcs (c.args.number / W.states) c.leaving-range.result = subst (λ (p : Place). Leaving W.arcs p.stop c.leaving-range.result) c.place-from.ensures c.leaving-range.ensures in
-    let room = range_room W.arcs W.states rows c.args.number c.args.label c.leaving-range.result _ (g.R.Rule.lawful c.args.self.now.rule.now).some c.requires.size.1.0 leaving c.requires.room.0 in
+    let leaving : Leaving W.arcs (c.args.number / W.states) c.numbers-range.result = subst (λ (p : Place). Leaving W.arcs p.stop c.numbers-range.result) c.place-from.ensures (leaving_numbers c.args.self.now.network.arcs.now c.place-from.result.stop c.leaving.result _ c.numbers-range.ensures c.leaving.ensures) in
+    let room = range_room W.arcs W.states rows c.args.number c.args.label c.numbers-range.result _ (g.R.Rule.lawful c.args.self.now.rule.now).some c.requires.size.1.0 leaving c.requires.room.0 in
     let most = relaxed_most W.arcs W.states (set rows c.args.number (Some (settle c.args.label))) in
     let held : length (contents c.settle-settled.new.self.queue.now) ≡ length (contents c.args.frontier.now.queue.now) = ap (λ z. length (contents z)) c.settle-settled.ensures.queue in
     let slots : 1 + length W.arcs * W.states ≤ capacity c.args.frontier.now.queue.now = c.requires.room.1 in
@@ -41,7 +42,7 @@ returns-clause-table g c =
 pub returns-clause-count : goal.returns-clause-count
 returns-clause-count g c =
     let W : World = world_of g.B.Book.answer g.R.Rule.automaton c.args.self.now in
-    let leaving : Leaving W.arcs (c.args.number / W.states) c.leaving-range.result = subst (λ (p : Place). Leaving W.arcs p.stop c.leaving-range.result) c.place-from.ensures c.leaving-range.ensures in
-    let room = range_room W.arcs W.states c.args.frontier.now.labels.now c.args.number c.args.label c.leaving-range.result _ (g.R.Rule.lawful c.args.self.now.rule.now).some c.requires.size.1.0 leaving c.requires.room.0 in
+    let leaving : Leaving W.arcs (c.args.number / W.states) c.numbers-range.result = subst (λ (p : Place). Leaving W.arcs p.stop c.numbers-range.result) c.place-from.ensures (leaving_numbers c.args.self.now.network.arcs.now c.place-from.result.stop c.leaving.result _ c.numbers-range.ensures c.leaving.ensures) in
+    let room = range_room W.arcs W.states c.args.frontier.now.labels.now c.args.number c.args.label c.numbers-range.result _ (g.R.Rule.lawful c.args.self.now.rule.now).some c.requires.size.1.0 leaving c.requires.room.0 in
     let held : length (contents c.settle-settled.new.self.queue.now) ≡ length (contents c.args.frontier.now.queue.now) = ap (λ z. length (contents z)) c.settle-settled.ensures.queue in
     omega (arith, c.relax.ensures.count)
