@@ -31,7 +31,7 @@ pub struct Trip {
     /// Whether it waits before some leg.
     pub waits: bool,
     /// Whether it is eager: it never waits, and is at each of its places at its first second. Said once all trips are listed.
-    pub(crate) eager: bool,
+    pub eager: bool,
 }
 
 impl Trip {
