@@ -68,6 +68,9 @@ impl<'a> Book for Walks<'a> {
 
     fn arrival(&self, service: u32, coming: u32) -> Option<u32> {
         let time = self.times.get(service as usize)?;
-        timely(coming.checked_add(*time)?)
+        if coming > HORIZON {
+            return None;
+        }
+        timely(coming + *time)
     }
 }

@@ -60,14 +60,12 @@ impl NoticeTable {
             .position(|notice| notice.service == service)
     }
 
-    /// The notice of the service.
+    /// The notice of the service. By a `find` that copies what it looks at, a full table takes twice as long.
     pub fn find(&self, service: u32) -> Option<Notice>
         ensures { result ≡ notice_of service (listed self.now) }
     {
-        self.standing()
-            .iter()
-            .copied()
-            .find(|notice| notice.service == service)
+        let at = self.place(service)?;
+        Some(self.items[at])
     }
 
     /// Rewrites the notice of that service, or adds one at the end; refused where there are 64 others.
