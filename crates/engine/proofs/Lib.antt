@@ -1,4 +1,5 @@
 pub mod Agendas
 pub mod Grounds
+pub mod Unserved
 pub mod Passed
 pub mod Ranks

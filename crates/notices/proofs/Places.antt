@@ -1,9 +1,11 @@
 -- Where a notice lies, and what is put and lifted there.
-use Rattle.std.proofs.Common.{◌≡◌, ℕ, suc, ◌<◌, ◌≤◌, Bool, true, false, cond, ◌||◌, eqb, ltb, List, [], ◌∷◌, ◌++◌, length, get_or, set, Some, None, refl, sym, ap, ◌∙◌, arith}
+use Rattle.std.proofs.Common.{◌≡◌, ℕ, suc, ◌<◌, ◌≤◌, Bool, true, false, cond, ◌||◌, eqb, ltb, List, [], ◌∷◌, ◌++◌, length, get_or, slice_get, set, Some, None, refl, sym, ap, ◌∙◌, arith}
 use Rattle.std.specs.List.{remove, position, position_or_len}
 use Rattle.std.proofs.lemmas.List.Recursion.{is_position_or_len}
 use Rattle.std.proofs.lemmas.Bool.{eqb-true, ltb-true, ltb-false, lt-ltb, le-ltb, cond-true, cond-false}
 use Rattle.std.proofs.lemmas.Bool.Decides.{nat_tests}
+use Rattle.std.proofs.lemmas.List.Folds.{find_at}
+use Rattle.std.proofs.lemmas.Option.{slice_get-get_or, slice_get_past}
 use Rattle.notices.specs.declared.notice.Notice.{Notice}
 use Rattle.model.specs.declared.refusal.Refusal.TheVariants.{NoticesFull, NothingToLift}
 use Rattle.notices.specs.Notices.{notice_of, others, has, put_in, lift_from, amended, put_refusal, lift_refusal}
@@ -133,28 +135,10 @@ lift_one s ns i e =
 pub lift_none : (s : ℕ) (ns : List Notice) → position (λ n. eqb n.service s) ns ≡ None → lift_refusal s ns ≡ Some NothingToLift
 lift_none s ns e = cond-false _ _ _ (has_place s ns ∙ le-ltb _ _ (absent s ns e))
 
--- the notice at its place is the one that is found
-found_at : (s : ℕ) (ns : List Notice) (d : Notice) → place_of s ns < length ns → notice_of s ns ≡ Some (get_or ns (place_of s ns) d)
-found_at s [] d h = absurd (omega arith)
-found_at s (n ∷ ns) d h =
-    elim (eqb n.service s) as (λ b. cond b 0 (suc (place_of s ns)) < suc (length ns) → cond b (Some n) (notice_of s ns) ≡ Some (get_or (n ∷ ns) (cond b 0 (suc (place_of s ns))) d)) [
-      | true ↦ λ _. refl
-      | false ↦ λ l. found_at s ns d (omega arith)
-    ] h
-
-found_none : (s : ℕ) (ns : List Notice) → length ns ≤ place_of s ns → notice_of s ns ≡ None
-found_none s [] h = refl
-found_none s (n ∷ ns) h =
-    elim (eqb n.service s) as (λ b. suc (length ns) ≤ cond b 0 (suc (place_of s ns)) → cond b (Some n) (notice_of s ns) ≡ None) [
-      | true ↦ λ l. absurd (omega arith)
-      | false ↦ λ l. found_none s ns (omega arith)
-    ] h
-
 -- what is looked up by its place
 pub looked_up : (s : ℕ) (ns : List Notice) (i : ℕ) (d : Notice) → position (λ n. eqb n.service s) ns ≡ Some i → Some (get_or ns i d) ≡ notice_of s ns
 looked_up s ns i d e =
-    let p = placed s ns i e in
-    sym (found_at s ns d (omega (arith, p.0, p.1)) ∙ ap (λ k. Some (get_or ns k d)) (sym p.0))
+    let p = placed s ns i e in sym (find_at (λ n. eqb n.service s) ns ∙ ap (slice_get ns) (omega (arith, p.0, place_is s ns)) ∙ slice_get-get_or ns i d p.1)
 
 pub looked_up_none : (s : ℕ) (ns : List Notice) → position (λ n. eqb n.service s) ns ≡ None → None ≡ notice_of s ns
-looked_up_none s ns e = sym (found_none s ns (absent s ns e))
+looked_up_none s ns e = sym (find_at (λ n. eqb n.service s) ns ∙ slice_get_past ns _ (omega (arith, absent s ns e, place_is s ns)))

@@ -60,7 +60,7 @@ impl NoticeTable {
             .position(|notice| notice.service == service)
     }
 
-    /// The notice of the service. By a `find` that copies what it looks at, a full table takes twice as long.
+    /// The notice of the service. By a `find` through copies of the rows a look into an empty table, as most are, costs twice as much.
     pub fn find(&self, service: u32) -> Option<Notice>
         ensures { result ≡ notice_of service (listed self.now) }
     {
